@@ -1,0 +1,5 @@
+pub mod Limits
+pub mod Boundaries
+pub mod Rulings
+pub mod Checks
+pub mod Makes

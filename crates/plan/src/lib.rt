@@ -1,0 +1,7 @@
+// Sampling plans: what a plan means, the makes of plan, kinds of item, and the ruling on a count.
+pub mod cut;
+pub mod line;
+pub mod numbers;
+pub mod plans;
+pub mod single;
+pub mod verdicts;
