@@ -3,3 +3,7 @@ pub mod Boundaries
 pub mod Rulings
 pub mod Checks
 pub mod Makes
+pub mod Items
+pub mod Carried
+pub mod Rows
+pub mod Examples
