@@ -7,3 +7,4 @@ pub mod Items
 pub mod Carried
 pub mod Rows
 pub mod Examples
+pub mod Refusals

@@ -6,5 +6,6 @@ pub mod examples;
 pub mod items;
 pub mod numbers;
 pub mod plans;
+pub mod refusals;
 pub mod single;
 pub mod verdicts;
