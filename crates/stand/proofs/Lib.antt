@@ -1,2 +1,4 @@
 pub mod Emptiness
 pub mod Service
+pub mod Splits
+pub mod Living

@@ -1,3 +1,4 @@
 pub mod Refusals
 pub mod Bays
 pub mod Calls
+pub mod Histories
