@@ -25,12 +25,14 @@ use Rattle.plan.specs.declared.refusals.Refusal.{Refusal}
 use Rattle.plan.specs.declared.verdicts.Verdict.{Verdict}
 use Rattle.plan.proofs.Judging.{judged-more, unfinished, total-push}
 use Rattle.stand.specs.Bays.{held}
-use Rattle.stand.specs.Calls.{bay-of, tests, first-fitting, has-verdict, decided-by, satisfies, granted, left, reply-by, answer, after, one-more, fresh, Served}
-use Rattle.stand.specs.Histories.{Step, Opens, Clears, taken-by, taken, Occupied, Holds, Replied, Lived}
+use Rattle.stand.specs.Calls.{bay-of, tests, first-fitting, has-verdict, decided-by, satisfies, granted, left, reply-by, answer, after, one-more, fresh, told, Served}
+use Rattle.stand.specs.Histories.{Step, Opens, Clears, taken-by, taken, Occupied, Holds, Replied, Lived, steps}
+use Rattle.stand.specs.Refusals.{refused-call}
 use Rattle.stand.specs.declared.records.Call.{Call}
 use Rattle.stand.specs.declared.records.Call.the-variants.{Open, Take, Read, Clear}
 use Rattle.stand.specs.declared.records.Record.{Record}
 use Rattle.stand.specs.declared.records.Reply.{Reply}
+use Rattle.stand.specs.declared.records.StandFault.{StandFault}
 use Rattle.stand.proofs.Splits.{split-push, all-before}
 
 -- a call after which bay b is occupied as before
@@ -234,3 +236,14 @@ born m p bays none = record {
     empty : (e : List Step) (s : Step) (t : List Step) → [] ≡ e ++ (s ∷ t) → ⊥
     empty [] s t eq = let z : _≡_ {A = ℕ} 0 1 = cc in omega arith
     empty (x ∷ e) s t eq = let z : _≡_ {A = ℕ} 0 1 = cc in omega arith
+
+-- one more call and its reply
+pub steps-push : (cs : List Call) (rs : List (Result Reply StandFault)) (c : Call) (r : Result Reply StandFault) → length cs ≡ length rs → steps (cs ++ (c ∷ [])) (rs ++ (r ∷ [])) ≡ steps cs rs ++ ((c, told (λ x. x) refused-call r) ∷ [])
+steps-push [] [] c r e = refl
+steps-push [] (y ∷ rs) c r e = absurd (omega arith)
+steps-push (x ∷ cs) [] c r e = absurd (omega arith)
+steps-push (x ∷ cs) (y ∷ rs) c r e = ap (λ l. (x, told (λ z. z) refused-call y) ∷ l) (steps-push cs rs c r (omega arith))
+
+-- the law, of equal plans and histories
+pub lived-at : {m : ℕ} {p q : Boundary} {h k : List Step} {bays : List (Option Record)} → p ≡ q → h ≡ k → Lived m p h bays → Lived m q k bays
+lived-at {m} {p} {q} {h} {k} {bays} e f l = subst (λ x. Lived m x k bays) e (subst (λ x. Lived m p x bays) f l)

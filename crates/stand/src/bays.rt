@@ -14,6 +14,8 @@ ghost use Rattle.stand.specs.declared.records.BayFault.the-variants.{NoSuchBay
 ghost use Rattle.stand.specs.declared.records.Call.the-variants.{Open, Take, Read, Clear};
 ghost use Rattle.stand.specs.declared.records.Reply.the-variants.{Opened, Lot};
 use crate::records::BayFault;
+use crate::records::Call;
+use crate::records::Reply;
 use crate::records::Record;
 use crate::records::StandFault;
 use crate::calls::StandFaultFromBay;
@@ -119,5 +121,18 @@ impl<K: Item, P: Plan> Stand<K, P> {
         let lot = Record { size, count, verdict };
         self.bays[bay as usize] = Some(lot);
         Ok(lot)
+    }
+
+    // Any of the four calls.
+    pub fn call(&mut self, call: Call) -> Result<Reply, StandFault>
+        ensures served { λ r. ⌜ Served (K·Item .greatest) (P·Plan .meaning (now (self .entry) .plan)) call (now (self .entry) .bays) (now (self .exit) .bays) (told (λ x. x) refused-call r) ⌝ }
+        ensures plan { λ _. ⌜ now (self .exit) .plan ≡ now (self .entry) .plan ⌝ }
+    {
+        match call {
+            Call::Open(bay) => Ok(Reply::Opened(self.open(bay)?)),
+            Call::Take(bay, count) => Ok(Reply::Lot(self.take(bay, count)?)),
+            Call::Read(bay) => Ok(Reply::Lot(self.read(bay)?)),
+            Call::Clear(bay) => Ok(Reply::Lot(self.clear(bay)?)),
+        }
     }
 }
