@@ -1,0 +1,4 @@
+// A session: one line in, one reply line out. Its items are marks.
+pub mod chosen;
+pub mod faults;
+pub mod turns;
