@@ -2,3 +2,4 @@ pub mod Plans
 pub mod Carried
 pub mod Refusals
 pub mod Turns
+pub mod Replies

@@ -1,4 +1,5 @@
 // A session: one line in, one reply line out. Its items are marks.
 pub mod chosen;
 pub mod faults;
+mod replies;
 pub mod turns;

@@ -1,14 +1,30 @@
 // The refusals that the faults of a stand stand for, and a lower fault as a stand's.
 ghost use mathlib.Core.Path.{_≡_};
+ghost use Rattle.stand.specs.Calls.{bay-of};
 ghost use Rattle.stand.specs.Refusals.{refused-bay, refused-call};
 ghost use Rattle.stand.specs.declared.records.StandFault.the-variants.{Number, Bay};
 use crate::records::BayFault;
+use crate::records::Call;
 use crate::records::StandFault;
 use plan::numbers::NumberFault;
 use plan::refusals::Fault;
 use plan::refusals::Layer;
 use plan::refusals::NumberFaultFault;
 use plan::refusals::Refusal;
+
+impl Call {
+    // The bay that a call names.
+    pub fn bay(self) -> u32
+        ensures { λ r. ⌜ r ≡ bay-of self ⌝ }
+    {
+        match self {
+            Call::Open(bay) => bay,
+            Call::Take(bay, _) => bay,
+            Call::Read(bay) => bay,
+            Call::Clear(bay) => bay,
+        }
+    }
+}
 
 pub impl Fault for BayFault as BayFaultFault {
     ghost refused = { refused-bay };

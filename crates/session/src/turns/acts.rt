@@ -2,7 +2,10 @@
 ghost use mathlib.Core.Path.{_≡_};
 ghost use Rattle.plan.specs.Makes.{line-meaning, single-meaning};
 ghost use Rattle.plan.specs.Checks.{line-outside, size-outside};
+ghost use Rattle.session.specs.Plans.{base-meaning};
+ghost use Rattle.session.specs.Turns.State.{fresh};
 ghost use Rattle.session.specs.Turns.{acted, called, cut, planned, told, view};
+ghost use Rattle.session.specs.declared.turns.Answer.the-variants.{Planned};
 use super::Answer;
 use super::Session;
 use super::Turn;
@@ -42,6 +45,83 @@ impl Session {
                 Ok(Answer::Served(call, reply))
             }
             Turn::Working => Ok(Answer::Served(call, self.stand.call(call)?)),
+        }
+    }
+
+    // Stands with a plan that may still be cut.
+    fn choose(&mut self, base: Base) -> Answer
+        ensures view { λ _. ⌜ view (now (self .exit)) ≡ fresh (base-meaning base) ⌝ }
+        ensures answer { λ r. ⌜ r ≡ Planned (base-meaning base .last) ⌝ }
+        ensures line { λ _. ⌜ now (self .exit) .line ≡ now (self .entry) .line ⌝ }
+    {
+        self.turn = Turn::Fresh(base);
+        Answer::Planned(base.last_size())
+    }
+
+    fn choose_line(&mut self, accept_intercept: u64, reject_intercept: u64, slope: u64, cut_size: u32, cut_number: u32) -> Result<Answer, SessionFault>
+        ensures acts { λ r. ⌜ (view (now (self .exit)), told r) ≡ planned (view (now (self .entry))) (line-meaning «accept_intercept» «reject_intercept» slope «cut_size» «cut_number») (line-outside «accept_intercept» «reject_intercept» slope «cut_size» «cut_number») ⌝ }
+        ensures line { λ _. ⌜ now (self .exit) .line ≡ now (self .entry) .line ⌝ }
+    {
+        let Turn::NoPlan = self.turn else {
+            return Err(SessionFault::OutOfTurn);
+        };
+        let numbers = LineNumbers::check(
+            accept_intercept,
+            reject_intercept,
+            slope,
+            u64::from(cut_size),
+            u64::from(cut_number),
+        )?;
+        Ok(self.choose(Base::Line(Line::new(numbers))))
+    }
+
+    fn choose_single(&mut self, last_size: u32, number: u32) -> Result<Answer, SessionFault>
+        ensures acts { λ r. ⌜ (view (now (self .exit)), told r) ≡ planned (view (now (self .entry))) (single-meaning «last_size» number) (size-outside «last_size» number) ⌝ }
+        ensures line { λ _. ⌜ now (self .exit) .line ≡ now (self .entry) .line ⌝ }
+    {
+        let Turn::NoPlan = self.turn else {
+            return Err(SessionFault::OutOfTurn);
+        };
+        let numbers = SingleNumbers::check(u64::from(last_size), u64::from(number))?;
+        Ok(self.choose(Base::Single(Single::new(numbers))))
+    }
+
+    // Cuts the plan, which is at work then.
+    fn choose_cut(&mut self, size: u32, number: u32) -> Result<Answer, SessionFault>
+        ensures acts { λ r. ⌜ (view (now (self .exit)), told r) ≡ cut (view (now (self .entry))) size number ⌝ }
+        ensures line { λ _. ⌜ now (self .exit) .line ≡ now (self .entry) .line ⌝ }
+    {
+        let base = match self.turn {
+            Turn::NoPlan => return Err(SessionFault::NoPlan),
+            Turn::Working => return Err(SessionFault::OutOfTurn),
+            Turn::Fresh(base) => base,
+        };
+        let plan = Cut::new(base, CutNumbers::check(u64::from(size), u64::from(number))?);
+        let last_size = plan.last_size();
+        self.stand = Stand::new(Chosen::Cut(plan));
+        self.turn = Turn::Working;
+        Ok(Answer::Planned(last_size))
+    }
+
+    // What a command does: the answer, or why it is refused.
+    pub fn act(&mut self, command: Command) -> Result<Answer, SessionFault>
+        ensures acts { λ r. ⌜ (view (now (self .exit)), told r) ≡ acted (view (now (self .entry))) command ⌝ }
+        ensures line { λ _. ⌜ now (self .exit) .line ≡ now (self .entry) .line ⌝ }
+    {
+        match command {
+            Command::Line {
+                accept_intercept,
+                reject_intercept,
+                slope,
+                cut_size,
+                cut_number,
+            } => self.choose_line(accept_intercept, reject_intercept, slope, cut_size, cut_number),
+            Command::Single { last_size, number } => self.choose_single(last_size, number),
+            Command::Cut { size, number } => self.choose_cut(size, number),
+            Command::Open { bay } => self.call(Call::Open(bay)),
+            Command::Read { bay } => self.call(Call::Read(bay)),
+            Command::Clear { bay } => self.call(Call::Clear(bay)),
+            Command::Take { bay, count } => self.call(Call::Take(bay, count)),
         }
     }
 }
