@@ -3,3 +3,4 @@ pub mod Carried
 pub mod Refusals
 pub mod Turns
 pub mod Replies
+pub mod Sessions

@@ -7,6 +7,10 @@ use stand::records::Call;
 use stand::records::Reply;
 
 mod acts;
+mod sessions;
+
+pub use sessions::LAST_LINE;
+pub use sessions::REPLY_ROOM;
 
 // No plan yet; a plan that may still be cut; or a stand at work.
 #[derive(Clone, Copy)]

@@ -104,7 +104,7 @@ impl Session {
     }
 
     // What a command does: the answer, or why it is refused.
-    pub fn act(&mut self, command: Command) -> Result<Answer, SessionFault>
+    pub(super) fn act(&mut self, command: Command) -> Result<Answer, SessionFault>
         ensures acts { λ r. ⌜ (view (now (self .exit)), told r) ≡ acted (view (now (self .entry))) command ⌝ }
         ensures line { λ _. ⌜ now (self .exit) .line ≡ now (self .entry) .line ⌝ }
     {
