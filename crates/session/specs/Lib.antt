@@ -4,3 +4,4 @@ pub mod Refusals
 pub mod Turns
 pub mod Replies
 pub mod Sessions
+pub mod Feeds

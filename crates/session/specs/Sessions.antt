@@ -1,8 +1,8 @@
 -- One line of a session: what is left, what is replied, and what the reply buffer holds. Assumes nothing.
 use mathlib.Core.Path.{_≡_}
-use mathlib.Core.Bool.{Bool, cond}
+use mathlib.Core.Bool.{false, cond}
 use mathlib.Core.List.{List, _++_}
-use Prim.Native.Nat.{ℕ, _+_, min}
+use Prim.Native.Nat.{ℕ, _+_, _≤_, min}
 use lib.Dec.{ltb}
 use lib.ListN.{length, drop}
 use Rattle.std.specs.declared.result.Result.{Result}
@@ -49,6 +49,7 @@ pub record Answered (s s′ : State) (n n′ : ℕ) (line buffer buffer′ : Lis
   pub state : s′ ≡ cond (ltb (length buffer) reply-room) s (heard s line .0)
   pub bytes : buffer′ ≡ cond (ltb (length buffer) reply-room) buffer (over (reply-to s line (next-line n)) buffer)
   pub result : r ≡ cond (ltb (length buffer) reply-room) (Err (refuse 13 Memory 96, next-line n)) (Ok (length (reply-to s line (next-line n))))
+  pub short : ltb (length buffer) reply-room ≡ false → length (reply-to s line (next-line n)) ≤ reply-room
 
 -- A refused line as its refusal and its number.
 abbrev pub told-line : Result ℕ RefusedLine → Result ℕ (Refusal × ℕ)

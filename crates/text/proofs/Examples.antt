@@ -8,7 +8,7 @@ use Rattle.text.specs.Commands.{commandOf}
 use Rattle.text.specs.Numerals.{wholeOf, decimalOf}
 use Rattle.text.specs.Readers.{unreadable}
 use Rattle.text.specs.Words.{words}
-use Rattle.text.specs.declared.commands.Command.the-variants.{Line, Open, Take}
+use Rattle.text.specs.declared.commands.Command.the-variants.{Line, Take}
 
 seven-digits : wholeOf (codes "1234567") ≡ Some 1234567
 seven-digits = refl

@@ -4,3 +4,4 @@ pub mod WordLaws
 pub mod CommandLaws
 pub mod TextLaws
 mod Examples
+pub mod Bounds

@@ -7,6 +7,7 @@ mod texts;
 mod words;
 
 pub use commands::Command;
+pub use cuts::cut;
 pub use numerals::decimal;
 pub use numerals::whole;
 pub use reading::command;

@@ -1,6 +1,6 @@
 // The numbers that a word can write.
 ghost use mathlib.Core.Path.{_≡_};
-ghost use Prim.Native.Nat.{_-_, _^_, _≤_};
+ghost use Prim.Native.Nat.{_≤_};
 ghost use Rattle.text.specs.Numerals.{numeralOf, wholeOf, decimalOf};
 use crate::cuts::cut;
 

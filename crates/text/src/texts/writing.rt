@@ -1,8 +1,6 @@
 // Assembling a text, and taking it out.
 ghost use mathlib.Core.Path.{_≡_};
 ghost use mathlib.Core.List.{[], _∷_};
-ghost use Prim.Native.Nat.{ℕ};
-ghost use lib.ListN.{length};
 ghost use Rattle.std.specs.Written.{decimal};
 ghost use Rattle.text.specs.Texts.{written, added, putLength, putOver};
 use super::Text;
@@ -31,8 +29,15 @@ impl Text {
         }
     }
 
+    // What is written.
+    pub fn as_bytes(&self) -> &[u8]
+        ensures { λ r. ⌜ now r ≡ written (now (self .entry)) ⌝ }
+    {
+        &self.bytes[0..self.len]
+    }
+
     // Adds bytes, as many as fit.
-    fn put(&mut self, part: &[u8])
+    pub fn put(&mut self, part: &[u8])
         ensures { λ _. ⌜ written (now (self .exit)) ≡ added (written (now (self .entry))) (now (part .entry)) ⌝ }
     {
         for b in part {
@@ -59,8 +64,8 @@ impl Text {
 
     // Writes the text at the start of `out`, and says how long it is.
     pub fn put_into(&self, out: &mut [u8]) -> Option<usize>
-        ensures length { λ r. ⌜ r ≡ putLength (written (now (self .entry))) (now (out .entry)) ⌝ }
-        ensures out { λ r. ⌜ now (out .exit) ≡ putOver (written (now (self .entry))) (now (out .entry)) ⌝ }
+        ensures value { λ r. ⌜ r ≡ putLength (written (now (self .entry))) (now (out .entry)) ⌝ }
+        ensures after { λ r. ⌜ now (out .exit) ≡ putOver (written (now (self .entry))) (now (out .entry)) ⌝ }
     {
         if out.len() < self.len {
             return None;

@@ -2,7 +2,7 @@
 use mathlib.Core.Path.{_≡_, refl, sym, ap, subst, _∙_}
 use mathlib.Core.Bool.{true, false, cond}
 use mathlib.Core.List.{_++_}
-use Prim.Native.Nat.{_+_, min}
+use Prim.Native.Nat.{_+_, _≤_, min}
 use native.Mathlib.Omega.{arith}
 use lib.Dec.{leb, ltb}
 use lib.ListN.{length, drop}
@@ -32,8 +32,9 @@ returns c =
     let is : text ≡ reply-to s line (next-line (c .args .self .now .line)) = c .reply .ensures .text ∙ ap (λ n. line-for (heard s line .1) n) numbered in
     let room : goesInto text buffer ≡ true = le-leb _ _ (omega (arith, written-short (c .reply .result), c .if-buffer-lt-REPLY-ROOM .left)) in
     record {
+      short = λ _. subst (λ t. length t ≤ 96) is (written-short (c .reply .result));
       number = c .reply .ensures .line ∙ numbered;
       state = c .reply .ensures .state ∙ sym (cond-false _ _ _ long);
-      bytes = c .put-into .ensures .out ∙ cond-true _ _ _ room ∙ ap (λ t. over t buffer) is ∙ sym (cond-false _ _ _ long);
-      result = ap told-line (c .ok-or .ensures .value ∙ given _ _ _ (c .put-into .ensures .length ∙ cond-true _ _ _ room)) ∙ ap (λ t. Ok (length t)) is ∙ sym (cond-false _ _ _ long);
+      bytes = c .put-into .ensures .after ∙ cond-true _ _ _ room ∙ ap (λ t. over t buffer) is ∙ sym (cond-false _ _ _ long);
+      result = ap told-line (c .ok-or .ensures .value ∙ given _ _ _ (c .put-into .ensures .value ∙ cond-true _ _ _ room)) ∙ ap (λ t. Ok (length t)) is ∙ sym (cond-false _ _ _ long);
     }
