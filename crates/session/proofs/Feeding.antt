@@ -3,7 +3,7 @@ use mathlib.Core.Path.{_≡_, refl, sym, ap, subst, _∙_}
 use mathlib.Core.Bool.{Bool, true, false, cond}
 use mathlib.Core.List.{List, [], _∷_, _++_, append-assoc, append-nil}
 use mathlib.Core.Logic.{_⊎_, inl, inr, ⊎-elim}
-use Prim.Native.Nat.{ℕ, _+_, _-_, _≤_, _<_, min}
+use Prim.Native.Nat.{ℕ, zero, suc, _+_, _-_, _≤_, _<_, min}
 use native.Mathlib.Omega.{arith}
 use lib.Dec.{leb, ltb, eqb}
 use lib.ListN.{length, take, drop, getD}
@@ -21,11 +21,12 @@ use Rattle.text.specs.Readers.{unreadable}
 use Rattle.text.specs.Texts.{added, written}
 use Rattle.text.specs.Words.{words}
 use Rattle.text.proofs.TextLaws.{written-short}
-use Rattle.session.specs.Feeds.{Fed, Line-ended, ended, kept, kept-most, unended, transcript, state-after, number-after}
+use Rattle.session.specs.Feeds.{Fed, Finished, Line-ended, ended, kept, kept-most, unended, transcript, state-after, number-after}
 use Rattle.session.specs.Replies.{line-for}
 use Rattle.session.specs.Sessions.{Answered, heard, obeyed, next-line, over, reply-to, told-line}
 use Rattle.session.specs.Turns.{State, view}
 use Rattle.session.specs.declared.feeds.Feed.{Feed}
+use Rattle.session.specs.declared.feeds.Progress.{Progress}
 use Rattle.session.specs.declared.faults.RefusedLine.{RefusedLine}
 
 -- of a line only the first 96 bytes matter
@@ -237,3 +238,22 @@ module _ (f g : Feed) (input buffer buffer′ : List ℕ) (k w : ℕ) (s : Sofar
       written = omega (arith, s .written, e .written, ap length texts ∙ length-append text reply);
       bytes = put ∙ ap (λ t. over t buffer) (sym texts);
     }
+
+-- the end of an input
+pub none-begun : (f : Feed) (buffer : List ℕ) (r : Result ℕ (Refusal × ℕ)) (line : List ℕ) → line ≡ [] → r ≡ Ok 0 → Finished f f line buffer buffer r
+none-begun f buffer r [] e ok = (refl, refl, ok)
+none-begun f buffer r (b ∷ bs) e ok = absurd (let z : _≡_ {A = ℕ} 0 1 = cc in omega arith)
+
+pub some-begun : (f f′ : Feed) (buffer buffer′ : List ℕ) (r : Result ℕ (Refusal × ℕ)) (line : List ℕ) → (length line ≡ 0 → ⊥) → kept f′ ≡ [] → Answered (view (f .session)) (view (f′ .session)) (f .session .line) (f′ .session .line) line buffer buffer′ r → Finished f f′ line buffer buffer′ r
+some-begun f f′ buffer buffer′ r [] some none a = absurd (some refl)
+some-begun f f′ buffer buffer′ r (b ∷ bs) some none a = (none, a)
+
+-- a buffer with room for a reply lets a feed read on
+pub moves : (f f′ : Feed) (input buffer buffer′ : List ℕ) (r : Progress) → Fed f f′ input buffer buffer′ r → 0 < length input → 96 ≤ length buffer → 0 < r .«read»
+moves f f′ input buffer buffer′ r fed some room = by-read (r .«read») refl
+  where
+    by-read : (k : ℕ) → r .«read» ≡ k → 0 < r .«read»
+    by-read zero e =
+        let none : r .written ≡ 0 = fed .written ∙ ap (λ n. length (transcript (view (f .session)) (f .session .line) (ended (kept f) (take n input)))) e in
+        absurd (omega (arith, fed .stops (omega arith)))
+    by-read (suc k) e = omega arith

@@ -5,8 +5,11 @@ use mathlib.Core.List.{List, [], _∷_, _++_}
 use Prim.Native.Nat.{ℕ, _+_, _<_, _≤_}
 use lib.Dec.{eqb}
 use lib.ListN.{length, take}
+use Rattle.std.specs.declared.result.Result.{Result}
+use Rattle.std.specs.declared.result.Result.the-variants.{Ok}
+use Rattle.plan.specs.declared.refusals.Refusal.{Refusal}
 use Rattle.text.specs.Texts.{written}
-use Rattle.session.specs.Sessions.{heard, next-line, over, reply-to}
+use Rattle.session.specs.Sessions.{Answered, heard, next-line, over, reply-to}
 use Rattle.session.specs.Turns.{State, view}
 use Rattle.session.specs.declared.feeds.Feed.{Feed}
 use Rattle.session.specs.declared.feeds.Progress.{Progress}
@@ -63,3 +66,8 @@ pub record Fed (f f′ : Feed) (input buffer buffer′ : List ℕ) (r : Progress
   pub room : r .written ≤ length buffer
   pub written : r .written ≡ length (transcript (view (f .session)) (f .session .line) (ended (kept f) (take (r .«read») input)))
   pub bytes : buffer′ ≡ over (transcript (view (f .session)) (f .session .line) (ended (kept f) (take (r .«read») input))) buffer
+
+-- The end of the input: a line that was begun is answered as it stands; where none was, nothing changes.
+abbrev pub Finished : Feed → Feed → List ℕ → List ℕ → List ℕ → Result ℕ (Refusal × ℕ) → Type 0
+Finished f f′ [] buffer buffer′ r = (f′ ≡ f) × (buffer′ ≡ buffer) × (r ≡ Ok 0)
+Finished f f′ (b ∷ bs) buffer buffer′ r = (kept f′ ≡ []) × Answered (view (f .session)) (view (f′ .session)) (f .session .line) (f′ .session .line) (b ∷ bs) buffer buffer′ r

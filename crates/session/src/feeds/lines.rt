@@ -3,11 +3,13 @@ ghost use mathlib.Core.Path.{_≡_};
 ghost use mathlib.Core.List.{[], _++_};
 ghost use Prim.Native.Nat.{_≤_};
 ghost use lib.ListN.{length};
-ghost use Rattle.session.specs.Feeds.{Fed, Line-ended, kept};
+ghost use Rattle.session.specs.Feeds.{Fed, Finished, Line-ended, kept};
+ghost use Rattle.session.specs.Sessions.{told-line};
 ghost use Rattle.session.specs.Turns.{view};
 ghost use Rattle.session.specs.Turns.State.{waiting};
 use super::Feed;
 use super::Progress;
+use crate::faults::RefusedLine;
 use crate::turns::REPLY_ROOM;
 use crate::turns::Session;
 use text::Text;
@@ -63,5 +65,17 @@ impl Feed {
             read += part.len() + 1;
         }
         Progress { read, written }
+    }
+
+    // At the end of the input: answers a line that was begun and not ended, if there is one.
+    pub fn finish(&mut self, buffer: &mut [u8]) -> Result<usize, RefusedLine>
+        ensures { λ r. ⌜ Finished (now (self .entry)) (now (self .exit)) (kept (now (self .entry))) (now (buffer .entry)) (now (buffer .exit)) (told-line r) ⌝ }
+    {
+        if self.begun.as_bytes().is_empty() {
+            return Ok(0);
+        }
+        let line = self.begun;
+        self.begun = Text::new();
+        self.session.answer(line.as_bytes(), buffer)
     }
 }
