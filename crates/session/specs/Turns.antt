@@ -109,7 +109,11 @@ acted s (Read b) = called s (read-call b)
 acted s (Clear b) = called s (clear-call b)
 acted s (Take b n) = called s (take-call b n)
 
--- The answers of the code, with each fault as its refusal.
+-- The answers and replies of the code, with each fault as its refusal.
 abbrev pub told : Result Answer SessionFault → Result Answer Refusal
 told (Ok a) = Ok a
 told (Err e) = Err (refused-line e)
+
+abbrev pub told-reply : Result Reply SessionFault → Result Reply Refusal
+told-reply (Ok r) = Ok r
+told-reply (Err e) = Err (refused-line e)

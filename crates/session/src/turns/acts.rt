@@ -2,9 +2,10 @@
 ghost use mathlib.Core.Path.{_≡_};
 ghost use Rattle.plan.specs.Makes.{line-meaning, single-meaning};
 ghost use Rattle.plan.specs.Checks.{line-outside, size-outside};
-ghost use Rattle.session.specs.Plans.{base-meaning};
+ghost use Rattle.stand.specs.Calls.{Served};
+ghost use Rattle.session.specs.Plans.{base-meaning, chosen-meaning};
 ghost use Rattle.session.specs.Turns.State.{fresh};
-ghost use Rattle.session.specs.Turns.{acted, called, cut, planned, told, view};
+ghost use Rattle.session.specs.Turns.{acted, called, cut, marks, planned, told, told-reply, view};
 ghost use Rattle.session.specs.declared.turns.Answer.the-variants.{Planned};
 use super::Answer;
 use super::Session;
@@ -14,10 +15,12 @@ use crate::chosen::BasePlan;
 use crate::chosen::Chosen;
 use crate::chosen::ChosenPlan;
 use crate::faults::SessionFault;
+use crate::faults::SessionFaultFromBay;
 use crate::faults::SessionFaultFromNumber;
 use crate::faults::SessionFaultFromStand;
 use plan::cut::Cut;
 use plan::cut::CutPlan;
+use plan::items::Mark;
 use plan::items::MarkItem;
 use plan::line::Line;
 use plan::numbers::CutNumbers;
@@ -27,10 +30,24 @@ use plan::plans::Plan;
 use plan::single::Single;
 use stand::bays::Stand;
 use stand::records::Call;
+use stand::records::Reply;
 use text::Command;
 
+// Puts a call to a stand. The faults of bays and numbers turn into the session's.
+fn put(stand: &mut Stand<Mark, Chosen>, call: Call) -> Result<Reply, SessionFault>
+    ensures served { λ r. ⌜ Served marks (chosen-meaning (now (stand .entry) .plan)) call (now (stand .entry) .bays) (now (stand .exit) .bays) (told-reply r) ⌝ }
+    ensures plan { λ _. ⌜ now (stand .exit) .plan ≡ now (stand .entry) .plan ⌝ }
+{
+    match call {
+        Call::Open(bay) => Ok(Reply::Opened(stand.open(bay)?)),
+        Call::Take(bay, count) => Ok(Reply::Lot(stand.take(bay, count)?)),
+        Call::Read(bay) => Ok(Reply::Lot(stand.read(bay)?)),
+        Call::Clear(bay) => Ok(Reply::Lot(stand.clear(bay)?)),
+    }
+}
+
 impl Session {
-    // Puts a call to the stand.
+    // Puts a call to the session's stand.
     fn call(&mut self, call: Call) -> Result<Answer, SessionFault>
         ensures acts { λ r. ⌜ (view (now (self .exit)), told r) ≡ called (view (now (self .entry))) call ⌝ }
         ensures line { λ _. ⌜ now (self .exit) .line ≡ now (self .entry) .line ⌝ }
@@ -39,12 +56,12 @@ impl Session {
             Turn::NoPlan => Err(SessionFault::NoPlan),
             Turn::Fresh(base) => {
                 let mut stand = Stand::new(Chosen::Whole(base));
-                let reply = stand.call(call)?;
+                let reply = put(&mut stand, call)?;
                 self.stand = stand;
                 self.turn = Turn::Working;
                 Ok(Answer::Served(call, reply))
             }
-            Turn::Working => Ok(Answer::Served(call, self.stand.call(call)?)),
+            Turn::Working => Ok(Answer::Served(call, put(&mut self.stand, call)?)),
         }
     }
 
