@@ -1,6 +1,8 @@
 // Days at the stand: sessions with the replies that were reckoned by hand.
 #[cfg(test)]
 mod tests {
+    use plan::refusals::Fault;
+    use session::faults::SessionFaultFault;
     use session::turns::Session;
     use std::test::*;
 
@@ -54,5 +56,45 @@ mod tests {
             check_eq(&buffer[0..n], reply)?;
         }
         check_eq(buffer[99], b'.')
+    }
+
+    // Two lots of the 10.0 % line, an item of each in turn: one clean, the other clean but for item 15.
+    #[test]
+    fn two_lots() -> Result<(), Fail> {
+        let mut session = Session::new();
+        let mut buffer = [0; 96];
+        let _ = session.answer(b"L 0.931 0.922 0.0394 65 2", &mut buffer);
+        let _ = session.answer(b"O 0", &mut buffer);
+        let _ = session.answer(b"O 1", &mut buffer);
+        for item in 1..25 {
+            let faulty: &[u8] = if item == 15 { b"I 1 1" } else { b"I 1 0" };
+            let _ = session.answer(faulty, &mut buffer);
+            let _ = session.answer(b"I 0 0", &mut buffer);
+        }
+        check_eq(&buffer[0..11], b"I 0 24 0 A\n".as_slice())?;
+        for _ in 25..50 {
+            let _ = session.answer(b"I 1 0", &mut buffer);
+        }
+        check_eq(&buffer[0..11], b"I 1 49 1 -\n".as_slice())?;
+        let _ = session.answer(b"I 1 0", &mut buffer);
+        check_eq(&buffer[0..11], b"I 1 50 1 A\n".as_slice())
+    }
+
+    // A buffer of 95 bytes is refused, and the line counts.
+    #[test]
+    fn short_buffer() -> Result<(), Fail> {
+        let mut session = Session::new();
+        let mut buffer = [b'.'; 95];
+        match session.answer(b"S 2 0", &mut buffer) {
+            Ok(_) => return Err(Fail::new("a short buffer was taken")),
+            Err(refused) => {
+                check_eq(refused.line, 1)?;
+                check_eq(refused.fault.refusal().cause, 13)?;
+            }
+        }
+        check_eq(buffer, [b'.'; 95])?;
+        let mut longer = [b'.'; 96];
+        check_eq(session.answer(b"O 3", &mut longer).unwrap_or(0), 11)?;
+        check_eq(&longer[0..11], b"! 23 T 1 2\n".as_slice())
     }
 }
