@@ -1,3 +1,4 @@
 pub mod Plans
 pub mod Spelling
 pub mod Feeding
+pub mod Pieces

@@ -5,6 +5,7 @@ use mathlib.Core.List.{List, [], _∷_, _++_}
 use Prim.Native.Nat.{ℕ, _+_, _<_, _≤_}
 use lib.Dec.{eqb}
 use lib.ListN.{length, take}
+use Rattle.std.specs.shelf.Lists.{All}
 use Rattle.std.specs.declared.result.Result.{Result}
 use Rattle.std.specs.declared.result.Result.the-variants.{Ok}
 use Rattle.plan.specs.declared.refusals.Refusal.{Refusal}
@@ -71,3 +72,30 @@ pub record Fed (f f′ : Feed) (input buffer buffer′ : List ℕ) (r : Progress
 abbrev pub Finished : Feed → Feed → List ℕ → List ℕ → List ℕ → Result ℕ (Refusal × ℕ) → Type 0
 Finished f f′ [] buffer buffer′ r = (f′ ≡ f) × (buffer′ ≡ buffer) × (r ≡ Ok 0)
 Finished f f′ (b ∷ bs) buffer buffer′ r = (kept f′ ≡ []) × Answered (view (f .session)) (view (f′ .session)) (f .session .line) (f′ .session .line) (b ∷ bs) buffer buffer′ r
+
+-- What lines are: the input is its lines, each with a line feed behind it, and then what is left; no line holds one.
+abbrev pub closed : List (List ℕ) → List ℕ
+closed [] = []
+closed (l ∷ ls) = l ++ (10 ∷ closed ls)
+
+abbrev pub No-feed : List ℕ → Type 0
+No-feed bs = All (λ b. b ≡ 10 → ⊥) bs
+
+pub record Parted (input : List ℕ) (ls : List (List ℕ)) (rest : List ℕ) : Type 0 where
+  pub joined : closed ls ++ rest ≡ input
+  pub lines : All No-feed ls
+  pub last : No-feed rest
+
+abbrev pub Lines-part : Type 0
+Lines-part = (input : List ℕ) → Parted input (ended [] input) (unended [] input)
+
+-- The law of pieces: an input in two pieces, of which the second finds only what was kept of an unended line, is
+-- answered as the whole input is, and leaves the session and what is kept alike.
+pub record Joined (s : State) (n : ℕ) (p a b : List ℕ) : Type 0 where
+  pub replies : transcript s n (ended p (a ++ b)) ≡ transcript s n (ended p a) ++ transcript (state-after s (ended p a)) (number-after n (ended p a)) (ended (take kept-most (unended p a)) b)
+  pub state : state-after s (ended p (a ++ b)) ≡ state-after (state-after s (ended p a)) (ended (take kept-most (unended p a)) b)
+  pub number : number-after n (ended p (a ++ b)) ≡ number-after (number-after n (ended p a)) (ended (take kept-most (unended p a)) b)
+  pub left : take kept-most (unended p (a ++ b)) ≡ take kept-most (unended (take kept-most (unended p a)) b)
+
+abbrev pub Pieces-join : Type 0
+Pieces-join = (s : State) (n : ℕ) (p a b : List ℕ) → Joined s n p a b

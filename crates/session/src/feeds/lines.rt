@@ -3,7 +3,7 @@ ghost use mathlib.Core.Path.{_≡_};
 ghost use mathlib.Core.List.{[], _++_};
 ghost use Prim.Native.Nat.{_≤_};
 ghost use lib.ListN.{length};
-ghost use Rattle.session.specs.Feeds.{Fed, Finished, Line-ended, kept};
+ghost use Rattle.session.specs.Feeds.{Fed, Finished, Line-ended, Lines-part, Pieces-join, kept};
 ghost use Rattle.session.specs.Sessions.{told-line};
 ghost use Rattle.session.specs.Turns.{view};
 ghost use Rattle.session.specs.Turns.State.{waiting};
@@ -16,11 +16,13 @@ use text::Text;
 use text::cut;
 
 impl Feed {
-    // A new session, and no line begun.
+    // A new session, and no line begun. The laws of lines and of pieces stand here too.
     pub fn new() -> Feed
         ensures view { λ r. ⌜ view (r .session) ≡ waiting ⌝ }
         ensures number { λ r. ⌜ r .session .line ≡ 0 ⌝ }
         ensures kept { λ r. ⌜ kept r ≡ [] ⌝ }
+        ensures lines { λ _. ⌜ Lines-part ⌝ }
+        ensures pieces { λ _. ⌜ Pieces-join ⌝ }
     {
         Feed {
             session: Session::new(),
