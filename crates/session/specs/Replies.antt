@@ -1,6 +1,8 @@
 -- The reply lines of a session. Assumes nothing.
+use mathlib.Core.Path.{_≡_}
 use mathlib.Core.List.{List, [], _∷_, _++_, map}
-use Prim.Native.Nat.{ℕ}
+use Prim.Native.Nat.{ℕ, _+_, _≤_}
+use lib.ListN.{length, take, drop}
 use Rattle.std.specs.Written.{decimal}
 use Rattle.std.specs.declared.option.Option.{Option}
 use Rattle.std.specs.declared.option.Option.the-variants.{Some, None}
@@ -26,6 +28,19 @@ use Rattle.session.specs.declared.turns.Answer.the-variants.{Planned, Served}
 abbrev pub field-text : Field → List ℕ
 field-text (Count n) = decimal n
 field-text (Letter b) = b ∷ []
+
+-- Bytes written over a buffer from a place on, and at its front: the rest stays.
+abbrev pub put-at : List ℕ → ℕ → List ℕ → List ℕ
+put-at buffer at bytes = take at buffer ++ (bytes ++ drop (at + length bytes) buffer)
+
+abbrev pub over : List ℕ → List ℕ → List ℕ
+over bytes buffer = bytes ++ drop (length bytes) buffer
+
+-- A reply of at most 96 bytes written at the front of a buffer.
+pub record Spelt (reply buffer buffer′ : List ℕ) (r : ℕ) : Type 0 where
+  pub bytes : buffer′ ≡ over reply buffer
+  pub count : r ≡ length reply
+  pub short : r ≤ 96
 
 -- A reply line: a letter and its fields, parted by single spaces, and a line feed.
 abbrev pub reply-line : ℕ → List Field → List ℕ

@@ -1,10 +1,10 @@
 -- One line of a session: what is left, what is replied, and what the reply buffer holds. Assumes nothing.
 use mathlib.Core.Path.{_≡_}
 use mathlib.Core.Bool.{false, cond}
-use mathlib.Core.List.{List, _++_}
+use mathlib.Core.List.{List}
 use Prim.Native.Nat.{ℕ, _+_, _≤_, min}
 use lib.Dec.{ltb}
-use lib.ListN.{length, drop}
+use lib.ListN.{length}
 use Rattle.std.specs.declared.result.Result.{Result}
 use Rattle.std.specs.declared.result.Result.the-variants.{Ok, Err}
 use Rattle.plan.specs.Refusals.{refuse}
@@ -14,7 +14,7 @@ use Rattle.text.specs.Commands.{commandOf}
 use Rattle.text.specs.declared.commands.Command.{Command}
 use Rattle.text.specs.declared.words.Unreadable.{Unreadable}
 use Rattle.session.specs.Refusals.{refused-line}
-use Rattle.session.specs.Replies.{line-for}
+use Rattle.session.specs.Replies.{line-for, over}
 use Rattle.session.specs.Turns.{State, Outcome, acted, refused}
 use Rattle.session.specs.declared.faults.RefusedLine.{RefusedLine}
 
@@ -37,10 +37,6 @@ heard s line = obeyed s (commandOf line)
 -- The reply line, by the number of the line.
 abbrev pub reply-to : State → List ℕ → ℕ → List ℕ
 reply-to s line number = line-for (heard s line .1) number
-
--- Bytes written at the front of a buffer: the rest stays.
-abbrev pub over : List ℕ → List ℕ → List ℕ
-over bytes buffer = bytes ++ drop (length bytes) buffer
 
 -- One line answered. A buffer that is too short is refused first: nothing is written and the turn stays, but the
 -- line counts. `n` and `n′` are the number of the last line before and after.

@@ -1,8 +1,8 @@
 // The reply lines of a session.
 mod spelling;
 
-pub use spelling::answer_text;
-pub use spelling::refusal_text;
+pub use spelling::spell_answer;
+pub use spelling::spell_refusal;
 
 
 // A number in decimal digits, or a letter.

@@ -1,10 +1,10 @@
 // How a reply line is written.
 ghost use mathlib.Core.Path.{_≡_};
-ghost use mathlib.Core.List.{_∷_};
-ghost use Prim.Native.Nat.{_≤_};
+ghost use mathlib.Core.List.{[], _∷_};
+ghost use Prim.Native.Nat.{_+_, _<_, _≤_};
 ghost use lib.ListN.{length};
-ghost use Rattle.text.specs.Texts.{written, added};
-ghost use Rattle.session.specs.Replies.{answer-line, call-letter, field-text, layer-letter, refusal-line, reply-line, verdict-letter};
+ghost use Rattle.std.specs.Written.{decimal};
+ghost use Rattle.session.specs.Replies.{Spelt, answer-line, call-letter, field-text, layer-letter, put-at, refusal-line, reply-line, verdict-letter};
 use super::Field;
 use crate::turns::Answer;
 use plan::refusals::Layer;
@@ -12,17 +12,41 @@ use plan::refusals::Refusal;
 use plan::verdicts::Verdict;
 use stand::records::Call;
 use stand::records::Reply;
-use text::Text;
 
-// Adds a space and a field.
-fn add(text: &mut Text, field: Field)
-    ensures text { λ _. ⌜ written (now (text .exit)) ≡ added (written (now (text .entry))) (32 ∷ field-text field) ⌝ }
+// Writes a byte at a place, and says the place after it.
+fn put_byte(out: &mut [u8], at: usize, byte: u8) -> usize
+    requires { ⌜ at < length (now out) ⌝ }
+    ensures bytes { λ _. ⌜ now (out .exit) ≡ put-at (now (out .entry)) at (byte ∷ []) ⌝ }
+    ensures place { λ r. ⌜ r ≡ at + 1 ⌝ }
+{
+    out[at] = byte;
+    at + 1
+}
+
+// Writes a number in decimal digits at a place, and says the place after it.
+fn put_number(out: &mut [u8], at: usize, n: u32) -> usize
+    requires { ⌜ at + length (decimal n) ≤ length (now out) ⌝ }
+    ensures bytes { λ _. ⌜ now (out .exit) ≡ put-at (now (out .entry)) at (decimal n) ⌝ }
+    ensures place { λ r. ⌜ r ≡ at + length (decimal n) ⌝ }
+{
+    if n < 10 {
+        return put_byte(out, at, b'0' + n as u8);
+    }
+    let last = put_number(out, at, n / 10);
+    put_byte(out, last, b'0' + (n % 10) as u8)
+}
+
+// Writes a space and a field at a place, and says the place after it.
+fn put_field(out: &mut [u8], at: usize, field: Field) -> usize
+    requires { ⌜ at + 11 ≤ length (now out) ⌝ }
+    ensures bytes { λ _. ⌜ now (out .exit) ≡ put-at (now (out .entry)) at (32 ∷ field-text field) ⌝ }
+    ensures place { λ r. ⌜ r ≡ at + length (32 ∷ field-text field) ⌝ }
     ensures short { λ _. ⌜ length (field-text field) ≤ 10 ⌝ }
 {
-    text.push(b' ');
+    let at = put_byte(out, at, b' ');
     match field {
-        Field::Count(n) => text.number(n),
-        Field::Letter(b) => text.push(b),
+        Field::Count(n) => put_number(out, at, n),
+        Field::Letter(b) => put_byte(out, at, b),
     }
 }
 
@@ -58,28 +82,29 @@ fn layer_letter(layer: Layer) -> u8
     }
 }
 
-// A letter, fields and a line feed.
-fn spelled(letter: u8, fields: &[Field]) -> Text
-    requires { ⌜ length (now fields) ≤ 8 ⌝ }
-    ensures { λ r. ⌜ written r ≡ reply-line letter (now (fields .entry)) ⌝ }
+// Writes a letter, fields and a line feed, and says how long that is.
+fn spell(out: &mut [u8], letter: u8, fields: &[Field]) -> usize
+    requires few { ⌜ length (now fields) ≤ 8 ⌝ }
+    requires room { ⌜ 96 ≤ length (now out) ⌝ }
+    ensures { λ r. ⌜ Spelt (reply-line letter (now (fields .entry))) (now (out .entry)) (now (out .exit)) r ⌝ }
 {
-    let mut text = Text::new();
-    text.push(letter);
+    let mut at = put_byte(out, 0, letter);
     for field in fields {
-        add(&mut text, *field);
+        at = put_field(out, at, *field);
     }
-    text.push(b'\n');
-    text
+    put_byte(out, at, b'\n')
 }
 
-// The reply to a command that is not refused.
-pub fn answer_text(answer: Answer) -> Text
-    ensures { λ r. ⌜ written r ≡ answer-line answer ⌝ }
+// Writes the reply to a command that is not refused.
+pub fn spell_answer(out: &mut [u8], answer: Answer) -> usize
+    requires { ⌜ 96 ≤ length (now out) ⌝ }
+    ensures { λ r. ⌜ Spelt (answer-line answer) (now (out .entry)) (now (out .exit)) r ⌝ }
 {
     match answer {
-        Answer::Planned(last_size) => spelled(b'P', &[Field::Count(last_size)]),
-        Answer::Served(call, Reply::Opened(bay)) => spelled(call_letter(call), &[Field::Count(bay)]),
-        Answer::Served(call, Reply::Lot(lot)) => spelled(
+        Answer::Planned(last_size) => spell(out, b'P', &[Field::Count(last_size)]),
+        Answer::Served(call, Reply::Opened(bay)) => spell(out, call_letter(call), &[Field::Count(bay)]),
+        Answer::Served(call, Reply::Lot(lot)) => spell(
+            out,
             call_letter(call),
             &[
                 Field::Count(call.bay()),
@@ -91,11 +116,13 @@ pub fn answer_text(answer: Answer) -> Text
     }
 }
 
-// The reply to a refused line.
-pub fn refusal_text(refusal: Refusal, line: u32) -> Text
-    ensures { λ r. ⌜ written r ≡ refusal-line refusal line ⌝ }
+// Writes the reply to a refused line.
+pub fn spell_refusal(out: &mut [u8], refusal: Refusal, line: u32) -> usize
+    requires { ⌜ 96 ≤ length (now out) ⌝ }
+    ensures { λ r. ⌜ Spelt (refusal-line refusal line) (now (out .entry)) (now (out .exit)) r ⌝ }
 {
-    spelled(
+    spell(
+        out,
         b'!',
         &[
             Field::Count(refusal.cause),

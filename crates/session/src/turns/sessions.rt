@@ -2,11 +2,10 @@
 ghost use mathlib.Core.Path.{_≡_};
 ghost use Prim.Native.Nat.{_≤_};
 ghost use lib.ListN.{length};
-ghost use Rattle.session.specs.Sessions.{Answered, heard, told-line, next-line};
-ghost use Rattle.session.specs.Replies.{line-for};
+ghost use Rattle.session.specs.Sessions.{Answered, heard, reply-to, told-line};
+ghost use Rattle.session.specs.Replies.{Spelt};
 ghost use Rattle.session.specs.Turns.State.{waiting};
 ghost use Rattle.session.specs.Turns.{told, view};
-ghost use Rattle.text.specs.Texts.{written};
 use super::Answer;
 use super::Session;
 use super::Turn;
@@ -16,12 +15,11 @@ use crate::faults::RefusedLine;
 use crate::faults::SessionFault;
 use crate::faults::SessionFaultFault;
 use crate::faults::SessionFaultFromUnreadable;
-use crate::replies::answer_text;
-use crate::replies::refusal_text;
+use crate::replies::spell_answer;
+use crate::replies::spell_refusal;
 use plan::items::MarkItem;
 use plan::refusals::Fault;
 use stand::bays::Stand;
-use text::Text;
 use text::command;
 
 // A reply buffer has at least this many bytes.
@@ -51,15 +49,16 @@ impl Session {
         self.act(command(line)?)
     }
 
-    // The reply to a line.
-    fn reply(&mut self, line: &[u8]) -> Text
-        ensures state { λ r. ⌜ view (now (self .exit)) ≡ heard (view (now (self .entry))) (now (line .entry)) .0 ⌝ }
-        ensures text { λ r. ⌜ written r ≡ line-for (heard (view (now (self .entry))) (now (line .entry)) .1) (now (self .entry) .line) ⌝ }
+    // Writes the reply to a line, and says how long it is.
+    fn reply(&mut self, line: &[u8], buffer: &mut [u8]) -> usize
+        requires { ⌜ 96 ≤ length (now buffer) ⌝ }
+        ensures state { λ _. ⌜ view (now (self .exit)) ≡ heard (view (now (self .entry))) (now (line .entry)) .0 ⌝ }
+        ensures spelt { λ r. ⌜ Spelt (reply-to (view (now (self .entry))) (now (line .entry)) (now (self .entry) .line)) (now (buffer .entry)) (now (buffer .exit)) r ⌝ }
         ensures line { λ _. ⌜ now (self .exit) .line ≡ now (self .entry) .line ⌝ }
     {
         match self.obey(line) {
-            Ok(answer) => answer_text(answer),
-            Err(fault) => refusal_text(fault.refusal(), self.line),
+            Ok(answer) => spell_answer(buffer, answer),
+            Err(fault) => spell_refusal(buffer, fault.refusal(), self.line),
         }
     }
 
@@ -69,13 +68,12 @@ impl Session {
         ensures { λ r. ⌜ Answered (view (now (self .entry))) (view (now (self .exit))) (now (self .entry) .line) (now (self .exit) .line) (now (line .entry)) (now (buffer .entry)) (now (buffer .exit)) (told-line r) ⌝ }
     {
         self.line = self.line.saturating_add(1).min(LAST_LINE);
-        let short = RefusedLine {
-            fault: SessionFault::ShortBuffer,
-            line: self.line,
-        };
         if buffer.len() < REPLY_ROOM {
-            return Err(short);
+            return Err(RefusedLine {
+                fault: SessionFault::ShortBuffer,
+                line: self.line,
+            });
         }
-        self.reply(line).put_into(buffer).ok_or(short)
+        Ok(self.reply(line, buffer))
     }
 }
