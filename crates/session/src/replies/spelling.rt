@@ -37,16 +37,16 @@ fn put_number(out: &mut [u8], at: usize, n: u32) -> usize
 }
 
 // Writes a space and a field at a place, and says the place after it.
-fn put_field(out: &mut [u8], at: usize, field: Field) -> usize
+fn put_field(out: &mut [u8], at: usize, field: &Field) -> usize
     requires { ⌜ at + 11 ≤ length (now out) ⌝ }
-    ensures bytes { λ _. ⌜ now (out .exit) ≡ put-at (now (out .entry)) at (32 ∷ field-text field) ⌝ }
-    ensures place { λ r. ⌜ r ≡ at + length (32 ∷ field-text field) ⌝ }
-    ensures short { λ _. ⌜ length (field-text field) ≤ 10 ⌝ }
+    ensures bytes { λ _. ⌜ now (out .exit) ≡ put-at (now (out .entry)) at (32 ∷ field-text (now (field .entry))) ⌝ }
+    ensures place { λ r. ⌜ r ≡ at + length (32 ∷ field-text (now (field .entry))) ⌝ }
+    ensures short { λ _. ⌜ length (field-text (now (field .entry))) ≤ 10 ⌝ }
 {
     let at = put_byte(out, at, b' ');
     match field {
-        Field::Count(n) => put_number(out, at, n),
-        Field::Letter(b) => put_byte(out, at, b),
+        Field::Count(n) => put_number(out, at, *n),
+        Field::Letter(b) => put_byte(out, at, *b),
     }
 }
 
@@ -90,7 +90,7 @@ fn spell(out: &mut [u8], letter: u8, fields: &[Field]) -> usize
 {
     let mut at = put_byte(out, 0, letter);
     for field in fields {
-        at = put_field(out, at, *field);
+        at = put_field(out, at, field);
     }
     put_byte(out, at, b'\n')
 }

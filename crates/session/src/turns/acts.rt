@@ -56,7 +56,7 @@ impl Session {
             Turn::NoPlan => Err(SessionFault::NoPlan),
             Turn::Fresh(base) => {
                 let mut stand = Stand::new(Chosen::Whole(base));
-                let reply = put(&mut stand, call)?;
+                let reply = stand.call(call)?;
                 self.stand = stand;
                 self.turn = Turn::Working;
                 Ok(Answer::Served(call, reply))
@@ -125,20 +125,21 @@ impl Session {
         ensures acts { λ r. ⌜ (view (now (self .exit)), told r) ≡ acted (view (now (self .entry))) command ⌝ }
         ensures line { λ _. ⌜ now (self .exit) .line ≡ now (self .entry) .line ⌝ }
     {
-        match command {
+        let call = match command {
             Command::Line {
                 accept_intercept,
                 reject_intercept,
                 slope,
                 cut_size,
                 cut_number,
-            } => self.choose_line(accept_intercept, reject_intercept, slope, cut_size, cut_number),
-            Command::Single { last_size, number } => self.choose_single(last_size, number),
-            Command::Cut { size, number } => self.choose_cut(size, number),
-            Command::Open { bay } => self.call(Call::Open(bay)),
-            Command::Read { bay } => self.call(Call::Read(bay)),
-            Command::Clear { bay } => self.call(Call::Clear(bay)),
-            Command::Take { bay, count } => self.call(Call::Take(bay, count)),
-        }
+            } => return self.choose_line(accept_intercept, reject_intercept, slope, cut_size, cut_number),
+            Command::Single { last_size, number } => return self.choose_single(last_size, number),
+            Command::Cut { size, number } => return self.choose_cut(size, number),
+            Command::Open { bay } => Call::Open(bay),
+            Command::Read { bay } => Call::Read(bay),
+            Command::Clear { bay } => Call::Clear(bay),
+            Command::Take { bay, count } => Call::Take(bay, count),
+        };
+        self.call(call)
     }
 }
