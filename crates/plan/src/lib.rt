@@ -9,3 +9,5 @@ pub mod plans;
 pub mod refusals;
 pub mod single;
 pub mod verdicts;
+#[cfg(test)]
+mod tests;

@@ -3,3 +3,5 @@ pub mod bays;
 pub mod calls;
 pub mod histories;
 pub mod records;
+#[cfg(test)]
+mod tests;

@@ -4,4 +4,3 @@ pub mod WordLaws
 pub mod CommandLaws
 pub mod TextLaws
 mod Examples
-pub mod Bounds

@@ -49,25 +49,3 @@ push-fits bs n b room long =
 -- a u32 has at most 10 digits, and at least one
 pub length-decimal-u32 : (n : ℕ) → n < 2 ^ 32 → length (decimal n) ≤ 10
 length-decimal-u32 n small = length-decimal-le 10 n (omega arith) (omega arith) (omega arith)
-
--- a number of two digits or more has a last digit before place i, and fewer places left
-pub digit-before : (n i : ℕ) (ds : List ℕ) → 10 ≤ n → n < 2 ^ 64 → 0 < i → i ≤ length ds → decimal n ++ drop i ds ≡ decimal (n / 10) ++ drop (i - 1) (set ds (i - 1) (48 + n % 10))
-digit-before n i ds two small some within =
-    let back : i - 1 + 1 ≡ i = omega arith in
-    let last = drop-set ds (i - 1) (48 + n % 10) (omega arith) ∙ ap (λ k. (48 + n % 10) ∷ drop k ds) back in
-    ap (λ l. l ++ drop i ds) (decimal-step n two small) ∙ append-assoc (decimal (n / 10)) _ (drop i ds) ∙ ap (λ l. decimal (n / 10) ++ l) (sym last)
-
--- a number with i places to come, of which the last is taken
-pub places-left : (n i : ℕ) → 10 ≤ n → n < 10 ^ i → i ≤ 10 → (0 < i) × (n / 10 < 10 ^ (i - 1)) × (n < 2 ^ 64)
-places-left n zero two below few = absurd (omega (arith, pow-zero 10))
-places-left n (suc i) two below few =
-    let one : suc i - 1 ≡ i = omega arith in
-    let most : 10 ^ suc i ≤ 10 ^ 10 = pow-le-pow-right (lit< tt) {i = suc i} {j = 10} few in
-    (omega arith, rw one (omega (arith, pow-suc 10 i)), omega arith)
-
--- the one digit of the front, and the digits from place i on
-pub digits-from : (n front i : ℕ) (ds : List ℕ) → decimal n ≡ decimal front ++ drop i ds → front < 10 → length ds ≡ 10 → decimal n ≡ (48 + front) ∷ take (10 - i) (drop i ds)
-digits-from n front i ds e small long =
-    let rest = length-drop i ds in
-    e ∙ ap (λ l. l ++ drop i ds) (decimal-digit front small)
-    ∙ ap (λ l. (48 + front) ∷ l) (sym (take-all (10 - i) (drop i ds) (omega arith)))

@@ -1,7 +1,7 @@
 -- The commands that a line can write. Assumes nothing.
 use mathlib.Core.Bool.{cond}
 use mathlib.Core.List.{List, [], _∷_}
-use Prim.Native.Nat.{ℕ, _+_, _^_, _<_}
+use Prim.Native.Nat.{ℕ, _+_}
 use lib.Dec.{eqb, leb}
 use lib.ListN.{length}
 use Rattle.std.specs.declared.option.Option.{Option}
@@ -73,17 +73,3 @@ commandIn (w ∷ ws) = lettered (letterOf w) ws
 -- a line is at most 80 bytes
 abbrev pub commandOf : List ℕ → Result Command Unreadable
 commandOf line = cond (leb (length line) 80) (commandIn (words line)) (Err (unreadable 1))
-
--- what the numbers of a command are below
-abbrev pub limit : Kind → ℕ
-limit Whole = 10 ^ 7
-limit Decimal = 10 ^ 10
-
-abbrev pub Limited : Command → Type 0
-Limited (Line a r s n m) = (a < limit Decimal) × (r < limit Decimal) × (s < limit Decimal) × (n < limit Whole) × (m < limit Whole)
-Limited (Single n m) = (n < limit Whole) × (m < limit Whole)
-Limited (Cut n m) = (n < limit Whole) × (m < limit Whole)
-Limited (Open n) = n < limit Whole
-Limited (Read n) = n < limit Whole
-Limited (Clear n) = n < limit Whole
-Limited (Take n m) = (n < limit Whole) × (m < limit Whole)

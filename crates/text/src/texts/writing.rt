@@ -1,8 +1,7 @@
 // Assembling a text, and taking it out.
 ghost use mathlib.Core.Path.{_≡_};
 ghost use mathlib.Core.List.{[], _∷_};
-ghost use Rattle.std.specs.Written.{decimal};
-ghost use Rattle.text.specs.Texts.{written, added, putLength, putOver};
+ghost use Rattle.text.specs.Texts.{written, added};
 use super::Text;
 
 // A text has room for this many bytes.
@@ -20,7 +19,7 @@ impl Text {
     }
 
     // Adds a byte, where it fits.
-    pub fn push(&mut self, byte: u8)
+    fn push(&mut self, byte: u8)
         ensures { λ _. ⌜ written (now (self .exit)) ≡ added (written (now (self .entry))) (byte ∷ []) ⌝ }
     {
         if self.len < ROOM {
@@ -43,34 +42,5 @@ impl Text {
         for b in part {
             self.push(*b);
         }
-    }
-
-    // Adds a number in decimal digits.
-    pub fn number(&mut self, n: u32)
-        ensures { λ _. ⌜ written (now (self .exit)) ≡ added (written (now (self .entry))) (decimal n) ⌝ }
-    {
-        // The digits of `n` are those of `left` and then `digits[first..]`.
-        let mut digits = [0u8; 10];
-        let mut first = 10;
-        let mut left = n;
-        while left >= 10 {
-            first -= 1;
-            digits[first] = b'0' + (left % 10) as u8;
-            left /= 10;
-        }
-        self.push(b'0' + left as u8);
-        self.put(&digits[first..10]);
-    }
-
-    // Writes the text at the start of `out`, and says how long it is.
-    pub fn put_into(&self, out: &mut [u8]) -> Option<usize>
-        ensures value { λ r. ⌜ r ≡ putLength (written (now (self .entry))) (now (out .entry)) ⌝ }
-        ensures after { λ r. ⌜ now (out .exit) ≡ putOver (written (now (self .entry))) (now (out .entry)) ⌝ }
-    {
-        if out.len() < self.len {
-            return None;
-        }
-        out[0..self.len].copy_from_slice(&self.bytes[0..self.len]);
-        Some(self.len)
     }
 }
