@@ -1,14 +1,14 @@
 -- One more call keeps the law over histories. Assumes nothing.
 use mathlib.Core.Path.{_≡_, refl, sym, ap, subst, _∙_}
 use mathlib.Core.Bool.{Bool, true, false, cond, not, _||_}
-use mathlib.Core.List.{List, [], _∷_, _++_, append-assoc, append-nil}
+use mathlib.Core.List.{List, [], _∷_, _++_, map, append-assoc, append-nil}
 use mathlib.Core.Logic.{_⊎_, inl, inr, ⊎-elim}
 use Prim.Native.Nat.{ℕ, zero, suc, _+_, _≤_, _<_}
 use native.Mathlib.Omega.{arith}
 use lib.Dec.{eqb, leb, ltb}
-use lib.ListN.{length, getD, set}
+use lib.ListN.{length, getD, set, take}
 use Rattle.std.proofs.shelf.Elements.{all-push}
-use Rattle.std.proofs.shelf.Lists.{length-push, set-past, getD-past, getD-set-same, getD-set-other}
+use Rattle.std.proofs.shelf.Lists.{length-push, set-past, set-getD, getD-past, getD-map, getD-set-same, getD-set-other, map-set, take-more-set}
 use Rattle.std.proofs.shelf.Tests.{cond-true, cond-false, cases-eq, cases-lt, lt-ltb, ne-eqb, eq-eqb, lt-leb, true≢false, both-ways}
 use Rattle.std.specs.Options.{isSome}
 use Rattle.std.specs.Results.{isOk}
@@ -26,10 +26,11 @@ use Rattle.plan.specs.declared.verdicts.Verdict.{Verdict}
 use Rattle.plan.proofs.Judging.{judged-more, unfinished, total-push}
 use Rattle.stand.specs.Bays.{held}
 use Rattle.stand.specs.Calls.{bay-of, tests, first-fitting, has-verdict, decided-by, satisfies, granted, left, reply-by, answer, after, one-more, fresh, told, Served}
-use Rattle.stand.specs.Histories.{Step, Opens, Clears, taken-by, taken, Occupied, Holds, Replied, Lived, steps}
+use Rattle.stand.specs.Histories.{Step, Opens, Clears, taken-by, taken, Occupied, Holds, Replied, Lived, call-of, step-of, steps}
 use Rattle.stand.specs.Refusals.{refused-call}
 use Rattle.stand.specs.declared.records.Call.{Call}
 use Rattle.stand.specs.declared.records.Call.the-variants.{Open, Take, Read, Clear}
+use Rattle.stand.specs.declared.records.Entry.{Entry}
 use Rattle.stand.specs.declared.records.Record.{Record}
 use Rattle.stand.specs.declared.records.Reply.{Reply}
 use Rattle.stand.specs.declared.records.StandFault.{StandFault}
@@ -237,13 +238,21 @@ born m p bays none = record {
     empty [] s t eq = let z : _≡_ {A = ℕ} 0 1 = cc in omega arith
     empty (x ∷ e) s t eq = let z : _≡_ {A = ℕ} 0 1 = cc in omega arith
 
--- one more call and its reply
-pub steps-push : (cs : List Call) (rs : List (Result Reply StandFault)) (c : Call) (r : Result Reply StandFault) → length cs ≡ length rs → steps (cs ++ (c ∷ [])) (rs ++ (r ∷ [])) ≡ steps cs rs ++ ((c, told (λ x. x) refused-call r) ∷ [])
-steps-push [] [] c r e = refl
-steps-push [] (y ∷ rs) c r e = absurd (omega arith)
-steps-push (x ∷ cs) [] c r e = absurd (omega arith)
-steps-push (x ∷ cs) (y ∷ rs) c r e = ap (λ l. (x, told (λ z. z) refused-call y) ∷ l) (steps-push cs rs c r (omega arith))
+-- one more entry with its reply
+steps-append : (es fs : List Entry) → steps (es ++ fs) ≡ steps es ++ steps fs
+steps-append [] fs = refl
+steps-append (e ∷ es) fs = ap (λ l. step-of (e .call) (e .reply) ++ l) (steps-append es fs) ∙ sym (append-assoc (step-of (e .call) (e .reply)) (steps es) (steps fs))
+
+pub steps-push : (es : List Entry) (c : Call) (r : Result Reply StandFault) → steps (es ++ (record { call = c; reply = Some r } ∷ [])) ≡ steps es ++ ((c, told (λ x. x) refused-call r) ∷ [])
+steps-push es c r = steps-append es (record { call = c; reply = Some r } ∷ [])
 
 -- the law, of equal plans and histories
 pub lived-at : {m : ℕ} {p q : Boundary} {h k : List Step} {bays : List (Option Record)} → p ≡ q → h ≡ k → Lived m p h bays → Lived m q k bays
 lived-at {m} {p} {q} {h} {k} {bays} e f l = subst (λ x. Lived m x k bays) e (subst (λ x. Lived m p x bays) f l)
+
+-- a reply written beside its call: the calls stay, and the steps are one more
+pub wrote : (h : List Entry) (i : ℕ) (d : Entry) (r : Result Reply StandFault) → i < length h → (map call-of (set h i (record { call = getD h i d .call; reply = Some r })) ≡ map call-of h) × (steps (take (i + 1) (set h i (record { call = getD h i d .call; reply = Some r }))) ≡ steps (take i h) ++ ((getD h i d .call, told (λ x. x) refused-call r) ∷ []))
+wrote h i d r inside =
+    let x : Entry = record { call = getD h i d .call; reply = Some r } in
+    (map-set call-of h i x ∙ ap (set (map call-of h) i) (sym (getD-map call-of h i d (d .call) inside)) ∙ set-getD (map call-of h) i (d .call),
+      ap steps (take-more-set h i x inside) ∙ steps-push (take i h) (getD h i d .call) r)

@@ -18,6 +18,7 @@ use Rattle.stand.specs.Calls.{answer, bay-of, has-verdict, told}
 use Rattle.stand.specs.Refusals.{refused-call}
 use Rattle.stand.specs.declared.records.Call.{Call}
 use Rattle.stand.specs.declared.records.Call.the-variants.{Open, Take, Read, Clear}
+use Rattle.stand.specs.declared.records.Entry.{Entry}
 use Rattle.stand.specs.declared.records.Record.{Record}
 use Rattle.stand.specs.declared.records.Reply.{Reply}
 use Rattle.stand.specs.declared.records.StandFault.{StandFault}
@@ -26,10 +27,17 @@ use Rattle.stand.specs.declared.records.StandFault.{StandFault}
 abbrev pub Step : Type 0
 Step = Call × Result Reply Refusal
 
-abbrev pub steps : List Call → List (Result Reply StandFault) → List Step
-steps [] rs = []
-steps (c ∷ cs) [] = []
-steps (c ∷ cs) (r ∷ rs) = (c, told (λ x. x) refused-call r) ∷ steps cs rs
+abbrev pub call-of : Entry → Call
+call-of e = e .call
+
+-- The steps of the entries that have a reply.
+abbrev pub step-of : Call → Option (Result Reply StandFault) → List Step
+step-of c None = []
+step-of c (Some r) = (c, told (λ x. x) refused-call r) ∷ []
+
+abbrev pub steps : List Entry → List Step
+steps [] = []
+steps (e ∷ es) = step-of (e .call) (e .reply) ++ steps es
 
 -- An opening of bay b, and a clearing of it, that are not refused.
 abbrev pub Opens : ℕ → Step → Type 0

@@ -47,3 +47,10 @@ pub enum StandFault {
     Number(NumberFault),
     Bay(BayFault),
 }
+
+// A call of a history, and the reply to it once it was put to a stand.
+#[derive(Clone, Copy, Debug, PartialEq, Eq)]
+pub struct Entry {
+    pub call: Call,
+    pub reply: Option<Result<Reply, StandFault>>,
+}

@@ -1,11 +1,17 @@
 // A stand for marks with the single plan 2, 0.
 use crate::bays::Stand;
+use crate::histories::run;
 use crate::records::BayFault;
 use crate::records::BayFaultDebug;
 use crate::records::BayFaultPartialEq;
+use crate::records::Call;
+use crate::records::Entry;
 use crate::records::Record;
 use crate::records::RecordDebug;
 use crate::records::RecordPartialEq;
+use crate::records::Reply;
+use crate::records::ReplyDebug;
+use crate::records::ReplyPartialEq;
 use crate::records::StandFault;
 use crate::records::StandFaultDebug;
 use crate::records::StandFaultPartialEq;
@@ -58,4 +64,20 @@ fn two_bays() -> Result<(), Fail> {
     check_eq(stand.take(3, 0), Ok(accepted))?;
     check_eq(stand.clear(4), Ok(rejected))?;
     check_eq(stand.read(3), Ok(accepted))
+}
+
+// A history of three calls, with their replies and the stand after them.
+#[test]
+fn a_history() -> Result<(), Fail> {
+    let mut history = [
+        Entry { call: Call::Open(3), reply: None },
+        Entry { call: Call::Take(3, 1), reply: None },
+        Entry { call: Call::Take(3, 0), reply: None },
+    ];
+    let stand: Stand<Mark, Single> = run(Single::new(SingleNumbers::check(2, 0)?), &mut history);
+    let rejected = Record { size: 1, count: 1, verdict: Some(Verdict::Reject) };
+    check_eq(history[0].reply, Some(Ok(Reply::Opened(3))))?;
+    check_eq(history[1].reply, Some(Ok(Reply::Lot(rejected))))?;
+    check_eq(history[2].reply, Some(Err(StandFault::Bay(BayFault::Decided(3)))))?;
+    check_eq(stand.read(3), Ok(rejected))
 }

@@ -1,48 +1,44 @@
 use mathlib.Core.Path.{_≡_, refl, sym, ap, subst, _∙_}
-use mathlib.Core.List.{List, [], _∷_, _++_}
-use Prim.Native.Nat.{_+_, _≤_}
+use mathlib.Core.List.{List, [], _∷_, _++_, map}
+use Prim.Native.Nat.{_+_, _<_, _≤_}
 use native.Mathlib.Omega.{arith}
-use lib.ListN.{length, take, set, getD}
-use Rattle.std.proofs.Told.{chosen}
-use Rattle.std.proofs.shelf.Lists.{take-all, take-more, length-push, length-set, length-take-le}
-use Rattle.std.specs.Of.Vec.{vec-items}
-use Rattle.std.specs.Results.{isOk}
+use lib.ListN.{length, take}
+use Rattle.std.proofs.shelf.Lists.{take-all, length-push, length-set}
 use Rattle.stand.specs.Bays.{held}
-use Rattle.stand.specs.Histories.{Lived, steps}
-use Rattle.stand.specs.declared.records.Call.the-variants.{Open}
+use Rattle.stand.specs.Histories.{steps}
 use Rattle.stand.proofs.Emptiness.{held-none}
-use Rattle.stand.proofs.Living.{served-lived, steps-push, born, lived-at}
+use Rattle.stand.proofs.Living.{served-lived, wrote, born, lived-at}
 use Rattle.stand.proofs.histories.run.Needs as need
 
-pub loop-call-holds : need.loop-call-holds
-loop-call-holds g c =
+pub loop-step-holds : need.loop-step-holds
+loop-step-holds g c =
     let empty = c .new-stand .ensures .1 in
-    (refl, ap length empty, ap length (c .new-replies .ensures .items), omega arith, born _ _ _ (λ b. ap (λ l. held l b) empty ∙ held-none 32 b))
+    (refl, ap length empty, refl, refl, born _ _ _ (λ b. ap (λ l. held l b) empty ∙ held-none 32 b))
 
-pub loop-call-again : need.loop-call-again
-loop-call-again g c =
-    let i = c .loop-call .call-index in
-    let inv = c .loop-call .inv in
-    let served = c .call-reply .ensures .served in
-    let rs = vec-items (c .loop-call .replies) in
-    let pushed = chosen _ _ _ _ (c .push .ensures .items) (ap isOk (c .in-Continue-push .was tt)) in
+pub loop-step-again : need.loop-step-again
+loop-step-again g c =
+    let i = c .loop-step .step-index in
+    let inv = c .loop-step .inv in
+    let served = c .call .ensures .served in
+    let inside : i < length (c .loop-step .history) = omega (arith, c .loop-step-test .taken, c .loop-step .kept .history) in
+    let new = wrote (c .loop-step .history) i _ (c .call .result) inside in
     let lived = served-lived (g .K·Item .greatest) _ (g .P·Plan·met .lawful _) _ _ _ _ _ (inv .1) (inv .4) served in
-    let calls = c .args .calls .now in
-    let front : length (take i calls) ≡ length rs = length-take-le i calls (inv .3) ∙ sym (inv .2) in
-    let listed = ap (λ l. steps l (vec-items (c .push .last .self))) (take-more calls i (Open 0) (c .loop-call-test .taken)) ∙ ap (steps (take i calls ++ (getD calls i (Open 0) ∷ []))) pushed ∙ steps-push (take i calls) rs (getD calls i (Open 0)) (c .call-reply .result) front in
-    (c .call-reply .ensures .plan ∙ inv .0,
+    (c .call .ensures .plan ∙ inv .0,
       ap length (served .bays) ∙ length-set _ _ _ ∙ inv .1,
-      ap length pushed ∙ length-push rs _ ∙ ap (λ k. k + 1) (inv .2),
-      omega arith,
-      lived-at (ap (g .P·Plan .meaning) (sym (c .call-reply .ensures .plan))) (sym listed) lived)
+      new .0 ∙ inv .2,
+      ap length (new .1) ∙ length-push (steps (take i (c .loop-step .history))) _ ∙ ap (λ k. k + 1) (inv .3),
+      lived-at (ap (g .P·Plan .meaning) (sym (c .call .ensures .plan))) (sym (new .1)) lived)
 
 pub returns : need.returns
 returns g c =
-    let inv = c .loop-call .inv in
-    let all : length (c .args .calls .now) ≡ c .loop-call .call-index = omega (arith, inv .3) in
+    let inv = c .loop-step .inv in
+    let i = c .loop-step .step-index in
     let plan-is = inv .0 ∙ c .new-stand .ensures .0 in
+    let whole : i ≡ length (c .args .history .now) = omega (arith, c .loop-step-test .left, c .loop-step .kept .step-index-end) in
+    let all = take-all i (c .loop-step .history) (omega (arith, c .loop-step-test .left, c .loop-step .kept .history)) in
     record {
       plan = plan-is;
-      replies = inv .2 ∙ sym all;
-      lived = lived-at (ap (g .P·Plan .meaning) plan-is) (ap (λ l. steps l (vec-items (c .loop-call .replies))) (take-all (c .loop-call .call-index) (c .args .calls .now) (c .loop-call-test .left))) (inv .4);
+      calls = inv .2;
+      replies = ap (λ l. length (steps l)) (sym all) ∙ inv .3 ∙ whole;
+      lived = lived-at (ap (g .P·Plan .meaning) plan-is) (ap steps all) (inv .4);
     }

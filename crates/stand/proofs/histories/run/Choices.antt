@@ -1,14 +1,14 @@
 use mathlib.Core.Path.{_≡_}
+use mathlib.Core.List.{map}
 use Prim.Native.Nat.{_≤_}
 use lib.ListN.{length, take}
-use Rattle.std.specs.Of.Vec.{vec-items}
-use Rattle.stand.specs.Histories.{Lived, steps}
+use Rattle.stand.specs.Histories.{Lived, call-of, steps}
 use Rattle.stand.proofs.histories.run.Given as given
 
-abbrev pub Inv-loop-call : given.InvT-loop-call
-Inv-loop-call g l =
+abbrev pub Inv-loop-step : given.InvT-loop-step
+Inv-loop-step g l =
     (l .stand .plan ≡ l .entry .stand .plan)
     × (length (l .stand .bays) ≡ 32)
-    × (length (vec-items (l .replies)) ≡ l .call-index)
-    × (l .call-index ≤ length (l .calls))
-    × Lived (g .K·Item .greatest) (g .P·Plan .meaning (l .stand .plan)) (steps (take (l .call-index) (l .calls)) (vec-items (l .replies))) (l .stand .bays)
+    × (map call-of (l .history) ≡ map call-of (l .entry .history))
+    × (length (steps (take (l .step-index) (l .history))) ≡ l .step-index)
+    × Lived (g .K·Item .greatest) (g .P·Plan .meaning (l .stand .plan)) (steps (take (l .step-index) (l .history))) (l .stand .bays)
