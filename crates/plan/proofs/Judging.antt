@@ -68,9 +68,9 @@ module _ (b : Boundary) where
       ⊎-elim
       (λ below. below)
       (λ reached.
-        let live = live-at xs none (b .last) (b .last) (law .some) (omega arith) reached (omega arith) in
-        let closed = law .closed in
-        absurd (omega (arith, ints)))
+      let live = live-at xs none (b .last) (b .last) (law .some) (omega arith) reached (omega arith) in
+      let closed = law .closed in
+      absurd (omega (arith, ints)))
       (cases-lt (length xs) (b .last))
 
   asked-at : (n : ℕ) → 1 ≤ n → n ≤ b .last → asked b n ≡ Some (b .pairs n)
@@ -104,8 +104,8 @@ module _ (b : Boundary) where
         ⊎-elim
         (λ past. subst (λ o. Judges b longer (ruled-by o (total xs + n))) (sym (asked-past (length xs + 1) past)) (λ k v e. none k v (shorter k v (omega (arith, e .size)) e)))
         (λ within.
-          subst (λ o. Judges b longer (ruled-by o (total xs + n))) (sym (asked-at (length xs + 1) (omega arith) (omega arith)))
-          (by-ruling (omega arith) (ruled (b .pairs (length xs + 1)) (total xs + n)) (rules-ruled (b .pairs (length xs + 1)) (total xs + n))))
+        subst (λ o. Judges b longer (ruled-by o (total xs + n))) (sym (asked-at (length xs + 1) (omega arith) (omega arith)))
+        (by-ruling (omega arith) (ruled (b .pairs (length xs + 1)) (total xs + n)) (rules-ruled (b .pairs (length xs + 1)) (total xs + n))))
         (cases-lt (b .last) (length xs + 1))
       where
         by-ruling : length xs + 1 ≤ b .last → (v : Option Verdict) → Rules (b .pairs (length xs + 1)) (total xs + n) v → Judges b longer v
@@ -113,15 +113,18 @@ module _ (b : Boundary) where
             ⊎-elim
             (λ front. none k w (shorter k w (omega arith) e))
             (λ end.
-              let k-is : k ≡ length xs + 1 = omega (arith, e .reached, length-push xs n) in
-              let there : Rules (b .pairs (length xs + 1)) (total xs + n) (Some w) = subst (λ d. Rules (b .pairs (length xs + 1)) d (Some w)) whole (subst (λ j. Rules (b .pairs j) (total (take j longer)) (Some w)) k-is (e .there)) in
-              let same : _≡_ {A = Option Verdict} None (Some w) = rules-one _ _ None (Some w) r there in
-              let z : _≡_ {A = ℕ} 0 1 = cc in
-              omega arith)
+            let k-is : k ≡ length xs + 1 = omega (arith, e .reached, length-push xs n) in
+            let there : Rules (b .pairs (length xs + 1)) (total xs + n) (Some w) = subst (λ d. Rules (b .pairs (length xs + 1)) d (Some w)) whole (subst (λ j. Rules (b .pairs j) (total (take j longer)) (Some w)) k-is (e .there)) in
+            let same : _≡_ {A = Option Verdict} None (Some w) = rules-one _ _ None (Some w) r there in
+            let z : _≡_ {A = ℕ} 0 1 = cc in
+            omega arith)
             (cases-lt k (length xs + 1))
-        by-ruling within (Some w) r = (length xs + 1, record {
-          size = (omega arith, within);
-          reached = omega (arith, length-push xs n);
-          before = λ k one below. subst (λ d. Rules (b .pairs k) d None) (sym (same-front k (omega arith))) (live-at xs none k k one (omega arith) (omega arith) (omega arith));
-          there = subst (λ d. Rules (b .pairs (length xs + 1)) d (Some w)) (sym whole) r;
-        })
+        by-ruling within (Some w) r = (
+          length xs + 1,
+          record {
+            size = (omega arith, within);
+            reached = omega (arith, length-push xs n);
+            before = λ k one below. subst (λ d. Rules (b .pairs k) d None) (sym (same-front k (omega arith))) (live-at xs none k k one (omega arith) (omega arith) (omega arith));
+            there = subst (λ d. Rules (b .pairs (length xs + 1)) d (Some w)) (sym whole) r;
+          },
+        )

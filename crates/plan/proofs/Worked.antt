@@ -40,15 +40,47 @@ lives b xs (suc n) t k h l =
     ⊎-elim
     (λ below. lives b xs n (and-right (live-test b xs (suc n)) (live-tests b xs n) t) k h (omega arith))
     (λ above. let same : suc n ≡ k = omega arith in
-      mathlib.Core.Path.subst (λ m. Rules (b .pairs m) (total (take m xs)) None) same (live-from b xs (suc n) (and-left _ (live-tests b xs n) t)))
+    mathlib.Core.Path.subst (λ m. Rules (b .pairs m) (total (take m xs)) None) same (live-from b xs (suc n) (and-left _ (live-tests b xs n) t)))
     (cases-lt k (suc n))
 
 pub worked : Examples-hold
 worked = (
   refl,
-  (refl, (refl, (refl, (refl, (refl, (refl, (refl, (refl, (refl,
-  (lives ten late-fault 49 tt,
-  (record { size = (omega arith, omega arith); reached = omega arith; before = λ k h l. lives ten late-fault 49 tt k h (omega arith); there = record { le = tt } },
-  (record { size = (omega arith, omega arith); reached = omega arith; before = λ k h l. absurd (omega arith); there = (record { lt = tt }, record { le = tt }) },
-  tt))))))))))))
+  (
+    refl,
+    (
+      refl,
+      (
+        refl,
+        (
+          refl,
+          (
+            refl,
+            (
+              refl,
+              (
+                refl,
+                (
+                  refl,
+                  (
+                    refl,
+                    (
+                      lives ten late-fault 49 tt,
+                      (
+                        record { size = (omega arith, omega arith); reached = omega arith; before = λ k h l. lives ten late-fault 49 tt k h (omega arith); there = record { le = tt } },
+                        (
+                          record { size = (omega arith, omega arith); reached = omega arith; before = λ k h l. absurd (omega arith); there = (record { lt = tt }, record { le = tt }) },
+                          tt,
+                        ),
+                      ),
+                    ),
+                  ),
+                ),
+              ),
+            ),
+          ),
+        ),
+      ),
+    ),
+  ),
 )

@@ -27,7 +27,10 @@ fn held(pair: (i32, i32), number: u32) -> (i32, i32)
     ensures { λ r. ⌜ r ≡ (minZ (pair .0) (pos number), minZ (pair .1) (pos (number + 1))) ⌝ }
 {
     let (acceptance, rejection) = pair;
-    (acceptance.min(number as i32), rejection.min(number as i32 + 1))
+    (
+        acceptance.min(number as i32),
+        rejection.min(number as i32 + 1),
+    )
 }
 
 pub impl<P: Plan> Plan for Cut<P> as CutPlan {
@@ -39,7 +42,10 @@ pub impl<P: Plan> Plan for Cut<P> as CutPlan {
 
     fn pair(&self, size: u32) -> Option<(i32, i32)> {
         let pair = self.below.pair(size)?;
-        let CutNumbers { size: cut_size, number } = self.numbers;
+        let CutNumbers {
+            size: cut_size,
+            number,
+        } = self.numbers;
         if size > cut_size {
             None
         } else if size < cut_size {

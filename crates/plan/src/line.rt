@@ -15,7 +15,8 @@ fn acceptance(rise: u64, intercept: u32, number: u32) -> i32
     ensures { λ r. ⌜ r ≡ minZ (maxZ (rounded-down (pos rise -ℤ pos intercept)) (negsuc 0)) (pos number) ⌝ }
 {
     let difference = rise as i64 - i64::from(intercept);
-    difference.div_euclid(MILLION as i64).max(-1).min(i64::from(number)) as i32
+    let whole = difference.div_euclid(MILLION as i64);
+    whole.max(-1).min(i64::from(number)) as i32
 }
 
 // The slope's part and the intercept, in millionths, rounded up, and at most the cut number plus one.

@@ -23,23 +23,59 @@ fn line_and_cut() -> Result<(), Fail> {
     };
     let line = Line::new(numbers);
     check_eq(
-        [line.pair(0), line.pair(1), line.pair(2), line.pair(23), line.pair(24), line.pair(27)],
-        [None, Some((-1, 1)), Some((-1, 2)), Some((-1, 2)), Some((0, 2)), Some((0, 2))],
+        [
+            line.pair(0),
+            line.pair(1),
+            line.pair(2),
+            line.pair(23),
+            line.pair(24),
+            line.pair(27),
+        ],
+        [
+            None,
+            Some((-1, 1)),
+            Some((-1, 2)),
+            Some((-1, 2)),
+            Some((0, 2)),
+            Some((0, 2)),
+        ],
     )?;
     check_eq(
-        [line.pair(28), line.pair(49), line.pair(50), line.pair(53), line.pair(65), line.pair(66)],
-        [Some((0, 3)), Some((0, 3)), Some((1, 3)), Some((1, 3)), Some((2, 3)), None],
+        [
+            line.pair(28),
+            line.pair(49),
+            line.pair(50),
+            line.pair(53),
+            line.pair(65),
+            line.pair(66),
+        ],
+        [
+            Some((0, 3)),
+            Some((0, 3)),
+            Some((1, 3)),
+            Some((1, 3)),
+            Some((2, 3)),
+            None,
+        ],
     )?;
     let cut = Cut::new(line, CutNumbers::check(40, 1)?);
     check_eq(cut.last_size(), 40)?;
-    check_eq([cut.pair(39), cut.pair(40), cut.pair(41)], [Some((0, 2)), Some((1, 2)), None])
+    check_eq(
+        [cut.pair(39), cut.pair(40), cut.pair(41)],
+        [Some((0, 2)), Some((1, 2)), None],
+    )
 }
 
 #[test]
 fn single_two_zero() -> Result<(), Fail> {
     let single = Single::new(SingleNumbers::check(2, 0)?);
     check_eq(
-        [single.pair(0), single.pair(1), single.pair(2), single.pair(3)],
+        [
+            single.pair(0),
+            single.pair(1),
+            single.pair(2),
+            single.pair(3),
+        ],
         [None, Some((-1, 1)), Some((0, 1)), None],
     )
 }

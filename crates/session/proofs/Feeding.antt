@@ -35,8 +35,8 @@ same-command l =
     ⊎-elim
     (λ short. ap commandOf (take-all 96 l (omega arith)))
     (λ long.
-      let cut : length (take 96 l) ≡ min 96 (length l) = length-take 96 l in
-      cond-false (leb (length (take 96 l)) 80) (commandIn (words (take 96 l))) (Err (unreadable 1)) (lt-leb _ 80 (omega arith)) ∙ sym (cond-false (leb (length l) 80) (commandIn (words l)) (Err (unreadable 1)) (lt-leb (length l) 80 (omega arith))))
+    let cut : length (take 96 l) ≡ min 96 (length l) = length-take 96 l in
+    cond-false (leb (length (take 96 l)) 80) (commandIn (words (take 96 l))) (Err (unreadable 1)) (lt-leb _ 80 (omega arith)) ∙ sym (cond-false (leb (length l) 80) (commandIn (words l)) (Err (unreadable 1)) (lt-leb (length l) 80 (omega arith))))
     (cases-lt (length l) 96)
 
 pub same-heard : (s : State) (l : List ℕ) → heard s (take 96 l) ≡ heard s l

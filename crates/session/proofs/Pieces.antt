@@ -57,6 +57,7 @@ alike s n p q (b ∷ bs) e = by-test (eqb b 10) (alike s n (p ++ (b ∷ [])) (q 
   where
     same : heard s p ≡ heard s q
     same = same-line s p q e
+
     by-test :
         (t : Bool) → Alike s n (ended (p ++ (b ∷ [])) bs) (ended (q ++ (b ∷ [])) bs) (unended (p ++ (b ∷ [])) bs) (unended (q ++ (b ∷ [])) bs)
         → Alike s n (cond t (p ∷ ended [] bs) (ended (p ++ (b ∷ [])) bs)) (cond t (q ∷ ended [] bs) (ended (q ++ (b ∷ [])) bs)) (cond t (unended [] bs) (unended (p ++ (b ∷ [])) bs)) (cond t (unended [] bs) (unended (q ++ (b ∷ [])) bs))

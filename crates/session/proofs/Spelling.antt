@@ -32,8 +32,8 @@ module _ (xs : List ℕ) (a : ℕ) (x : List ℕ) (inside : a + length x ≤ len
   pub put-put : (y : List ℕ) → put-at (put-at xs a x) (a + length x) y ≡ put-at xs a (x ++ y)
   put-put y =
       let ends : drop (a + length x + length y) (put-at xs a x) ≡ drop (a + length (x ++ y)) xs =
-            ap (drop (a + length x + length y)) front ∙ sym (drop-drop (length y) (a + length x) _) ∙ ap (drop (length y)) (drop-at (take a xs ++ x) (drop (a + length x) xs) (a + length x) head)
-            ∙ drop-drop (length y) (a + length x) xs ∙ ap (λ n. drop n xs) (add-assoc a (length x) (length y) ∙ ap (λ n. a + n) (sym (length-append x y))) in
+      ap (drop (a + length x + length y)) front ∙ sym (drop-drop (length y) (a + length x) _) ∙ ap (drop (length y)) (drop-at (take a xs ++ x) (drop (a + length x) xs) (a + length x) head)
+      ∙ drop-drop (length y) (a + length x) xs ∙ ap (λ n. drop n xs) (add-assoc a (length x) (length y) ∙ ap (λ n. a + n) (sym (length-append x y))) in
       ap (λ l. l ++ (y ++ drop (a + length x + length y) (put-at xs a x))) (ap (take (a + length x)) front ∙ take-at (take a xs ++ x) (drop (a + length x) xs) (a + length x) head)
       ∙ ap (λ l. (take a xs ++ x) ++ (y ++ l)) ends ∙ append-assoc (take a xs) x (y ++ drop (a + length (x ++ y)) xs) ∙ ap (λ l. take a xs ++ l) (sym (append-assoc x y (drop (a + length (x ++ y)) xs)))
 

@@ -46,7 +46,11 @@ pub impl Fault for SessionFault as SessionFaultFault {
             SessionFault::NoPlan => (23, Layer::Text, 1),
             SessionFault::OutOfTurn => (24, Layer::Text, 1),
         };
-        Refusal { cause, layer, place }
+        Refusal {
+            cause,
+            layer,
+            place,
+        }
     }
 }
 

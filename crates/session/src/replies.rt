@@ -4,7 +4,6 @@ mod spelling;
 pub use spelling::spell_answer;
 pub use spelling::spell_refusal;
 
-
 // A number in decimal digits, or a letter.
 #[derive(Clone, Copy)]
 enum Field {

@@ -86,9 +86,9 @@ module _ (b : ℕ) (h : List Step) (s : Step) where
       ⊎-elim
       (λ here. absurd (shut (subst (Opens b) (here .1) (occ .opens))))
       (λ front.
-        let all = all-before (λ x. Clears b x → ⊥) (front .0) s (subst (All (λ x. Clears b x → ⊥)) (front .1) (occ .uncleared)) in
-        let back : Occupied b h (taken b (front .0)) = record { earlier = occ .earlier; opening = occ .opening; since = front .0; split = front .2; opens = occ .opens; uncleared = all .0; items = refl } in
-        ((taken b (front .0), back, sym (taken-push b (front .0) s) ∙ ap (taken b) (sym (front .1)) ∙ occ .items), all .1))
+      let all = all-before (λ x. Clears b x → ⊥) (front .0) s (subst (All (λ x. Clears b x → ⊥)) (front .1) (occ .uncleared)) in
+      let back : Occupied b h (taken b (front .0)) = record { earlier = occ .earlier; opening = occ .opening; since = front .0; split = front .2; opens = occ .opens; uncleared = all .0; items = refl } in
+      ((taken b (front .0), back, sym (taken-push b (front .0) s) ∙ ap (taken b) (sym (front .1)) ∙ occ .items), all .1))
       (split-push h (occ .earlier) s (occ .opening) (occ .since) (occ .split))
 
   module _ (p : Boundary) (idle : Idle b s) where
@@ -129,12 +129,13 @@ module _ (m : ℕ) (p : Boundary) where
       let there : taken-by b (Take b n) true ≡ n ∷ [] = cond-true (eqb b b) (n ∷ []) [] (eq-eqb b b refl) in
       let judged = judged-more p xs n (subst (Judges p xs) live (hold .4)) in
       let sized : length xs + 1 ≡ r .size + 1 = ap (λ k. k + 1) (sym (hold .2)) in
-      let counted : total xs + n ≡ r .count + n = ap (λ k. k + n) (sym (hold .3)) in
-      (xs ++ (n ∷ []),
+      let counted : total xs + n ≡ r .count + n = ap (λ k. k + n) (sym (hold .3)) in (
+        xs ++ (n ∷ []),
         pushed b h s xs (n ∷ []) (hold .1) (λ cl. let z : _≡_ {A = ℕ} 0 1 = kinds (cl .0) in omega arith) there,
         ap (λ k. k + 1) (hold .2) ∙ sym (length-push xs n),
         sym counted ∙ sym (total-push xs n),
-        subst (λ d. Judges p (xs ++ (n ∷ [])) (ruling-at p (r .size + 1) d)) counted (subst (λ k. Judges p (xs ++ (n ∷ [])) (ruling-at p k (total xs + n))) sized judged))
+        subst (λ d. Judges p (xs ++ (n ∷ [])) (ruling-at p (r .size + 1) d)) counted (subst (λ k. Judges p (xs ++ (n ∷ [])) (ruling-at p k (total xs + n))) sized judged),
+      )
     where
       kinds : {a k : ℕ} {b : ℕ} → _≡_ {A = Call} (Take a k) (Clear b) → _≡_ {A = ℕ} 0 1
       kinds e = cc
@@ -142,6 +143,7 @@ module _ (m : ℕ) (p : Boundary) where
     where
       shut : {a b : ℕ} → _≡_ {A = Call} (Read a) (Open b) → ⊥
       shut e = let z : _≡_ {A = ℕ} 0 1 = cc in omega arith
+
       kept : {a b : ℕ} → _≡_ {A = Call} (Read a) (Clear b) → ⊥
       kept e = let z : _≡_ {A = ℕ} 0 1 = cc in omega arith
   granted-holds h (Clear b) o f hold = λ xs occ. popped b h _ xs occ (λ x. shut (x .0)) .1 (refl, refl)
@@ -179,8 +181,8 @@ module _ (m : ℕ) (p : Boundary) where
         ⊎-elim
         (λ inside. getD-set-same bays (bay-of c) _ None (omega arith))
         (λ past.
-          let gone : length bays ≤ bay-of c = omega arith in
-          ap (λ l. held l (bay-of c)) (set-past bays (bay-of c) _ gone) ∙ sym (cond-true _ o (left p c o) (ap isSome (no-bay c o (omega arith)))))
+        let gone : length bays ≤ bay-of c = omega arith in
+        ap (λ l. held l (bay-of c)) (set-past bays (bay-of c) _ gone) ∙ sym (cond-true _ o (left p c o) (ap isSome (no-bay c o (omega arith)))))
         (cases-lt (bay-of c) 32)
 
     holds-later : (b : ℕ) → Holds p (h ++ (s ∷ [])) b (held later b)
@@ -253,6 +255,7 @@ lived-at {m} {p} {q} {h} {k} {bays} e f l = subst (λ x. Lived m x k bays) e (su
 -- a reply written beside its call: the calls stay, and the steps are one more
 pub wrote : (h : List Entry) (i : ℕ) (d : Entry) (r : Result Reply StandFault) → i < length h → (map call-of (set h i (record { call = getD h i d .call; reply = Some r })) ≡ map call-of h) × (steps (take (i + 1) (set h i (record { call = getD h i d .call; reply = Some r }))) ≡ steps (take i h) ++ ((getD h i d .call, told (λ x. x) refused-call r) ∷ []))
 wrote h i d r inside =
-    let x : Entry = record { call = getD h i d .call; reply = Some r } in
-    (map-set call-of h i x ∙ ap (set (map call-of h) i) (sym (getD-map call-of h i d (d .call) inside)) ∙ set-getD (map call-of h) i (d .call),
-      ap steps (take-more-set h i x inside) ∙ steps-push (take i h) (getD h i d .call) r)
+    let x : Entry = record { call = getD h i d .call; reply = Some r } in (
+      map-set call-of h i x ∙ ap (set (map call-of h) i) (sym (getD-map call-of h i d (d .call) inside)) ∙ set-getD (map call-of h) i (d .call),
+      ap steps (take-more-set h i x inside) ∙ steps-push (take i h) (getD h i d .call) r,
+    )

@@ -97,9 +97,9 @@ pub small-set : (bays : List (Option Record)) (b : ℕ) (o : Option Record) → 
 small-set bays b o small new k r e =
     ⊎-elim
     (λ same. ⊎-elim
-      (λ inside. new r (sym (getD-set-same bays b o None inside) ∙ ap (λ i. getD (set bays b o) i None) (sym same) ∙ e))
-      (λ past. small k r (ap (λ l. getD l k None) (sym (set-past bays b o past)) ∙ e))
-      (cases-lt b (length bays)))
+    (λ inside. new r (sym (getD-set-same bays b o None inside) ∙ ap (λ i. getD (set bays b o) i None) (sym same) ∙ e))
+    (λ past. small k r (ap (λ l. getD l k None) (sym (set-past bays b o past)) ∙ e))
+    (cases-lt b (length bays)))
     (λ other. small k r (sym (getD-set-other bays b k o None other) ∙ e))
     (cases-eq k b)
 

@@ -23,12 +23,12 @@ module _ {A : Type 0} where
   split-push xs h x s t e =
       ⊎-elim
       (λ none.
-        let q = same-from-push xs h x s (e ∙ ap (λ l. h ++ (s ∷ l)) none) in
-        inl (sym (q .0), sym (q .1), none))
+      let q = same-from-push xs h x s (e ∙ ap (λ l. h ++ (s ∷ l)) none) in
+      inl (sym (q .0), sym (q .1), none))
       (λ some.
-        let joined : xs ++ (x ∷ []) ≡ (h ++ (s ∷ some .0)) ++ (some .1 ∷ []) = e ∙ ap (λ l. h ++ (s ∷ l)) (some .2) ∙ sym (append-assoc h (s ∷ some .0) (some .1 ∷ [])) in
-        let q = same-from-push xs (h ++ (s ∷ some .0)) x (some .1) joined in
-        inr (some .0, some .2 ∙ ap (λ y. some .0 ++ (y ∷ [])) (sym (q .1)), q .0))
+      let joined : xs ++ (x ∷ []) ≡ (h ++ (s ∷ some .0)) ++ (some .1 ∷ []) = e ∙ ap (λ l. h ++ (s ∷ l)) (some .2) ∙ sym (append-assoc h (s ∷ some .0) (some .1 ∷ [])) in
+      let q = same-from-push xs (h ++ (s ∷ some .0)) x (some .1) joined in
+      inr (some .0, some .2 ∙ ap (λ y. some .0 ++ (y ∷ [])) (sym (q .1)), q .0))
       (last-of t)
 
   pub all-before : (P : A → Type 0) (xs : List A) (x : A) → All P (xs ++ (x ∷ [])) → All P xs × P x

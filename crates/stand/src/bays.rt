@@ -13,16 +13,16 @@ ghost use Rattle.stand.specs.Refusals.{refused-bay, refused-call};
 ghost use Rattle.stand.specs.declared.records.BayFault.the-variants.{NoSuchBay};
 ghost use Rattle.stand.specs.declared.records.Call.the-variants.{Open, Take, Read, Clear};
 ghost use Rattle.stand.specs.declared.records.Reply.the-variants.{Opened, Lot};
+use crate::calls::StandFaultFromBay;
 use crate::records::BayFault;
 use crate::records::Call;
-use crate::records::Reply;
 use crate::records::Record;
+use crate::records::Reply;
 use crate::records::StandFault;
-use crate::calls::StandFaultFromBay;
-use plan::numbers::NumberFault;
-use plan::plans::rule;
 use plan::items::Item;
+use plan::numbers::NumberFault;
 use plan::plans::Plan;
+use plan::plans::rule;
 use std::marker::PhantomData;
 
 pub const BAYS: usize = 32;
@@ -72,7 +72,11 @@ impl<K: Item, P: Plan> Stand<K, P> {
         if look(&self.bays, bay)?.is_some() {
             return Err(BayFault::Busy(bay));
         }
-        self.bays[bay as usize] = Some(Record { size: 0, count: 0, verdict: None });
+        self.bays[bay as usize] = Some(Record {
+            size: 0,
+            count: 0,
+            verdict: None,
+        });
         Ok(bay)
     }
 
@@ -118,7 +122,11 @@ impl<K: Item, P: Plan> Stand<K, P> {
         let size = lot.size + 1;
         let count = lot.count + count;
         let verdict = rule(&self.plan, size, count);
-        let lot = Record { size, count, verdict };
+        let lot = Record {
+            size,
+            count,
+            verdict,
+        };
         self.bays[bay as usize] = Some(lot);
         Ok(lot)
     }

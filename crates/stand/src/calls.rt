@@ -36,7 +36,11 @@ pub impl Fault for BayFault as BayFaultFault {
             BayFault::Empty(bay) => (21, *bay),
             BayFault::Decided(bay) => (22, *bay),
         };
-        Refusal { cause, layer: Layer::Bay, place }
+        Refusal {
+            cause,
+            layer: Layer::Bay,
+            place,
+        }
     }
 }
 

@@ -28,8 +28,16 @@ use std::test::*;
 #[test]
 fn a_lot_from_open_to_clear() -> Result<(), Fail> {
     let mut stand: Stand<Mark, Single> = Stand::new(Single::new(SingleNumbers::check(2, 0)?));
-    let live = Record { size: 1, count: 0, verdict: None };
-    let accepted = Record { size: 2, count: 0, verdict: Some(Verdict::Accept) };
+    let live = Record {
+        size: 1,
+        count: 0,
+        verdict: None,
+    };
+    let accepted = Record {
+        size: 2,
+        count: 0,
+        verdict: Some(Verdict::Accept),
+    };
     check_eq(stand.open(0), Ok(0))?;
     check_eq(stand.take(0, 0), Ok(live))?;
     check_eq(stand.take(0, 0), Ok(accepted))?;
@@ -43,8 +51,14 @@ fn a_lot_from_open_to_clear() -> Result<(), Fail> {
 fn refusals() -> Result<(), Fail> {
     let mut stand: Stand<Mark, Single> = Stand::new(Single::new(SingleNumbers::check(2, 0)?));
     check_eq(stand.open(32), Err(BayFault::NoSuchBay(32)))?;
-    check_eq(stand.take(32, 2), Err(StandFault::Bay(BayFault::NoSuchBay(32))))?;
-    check_eq(stand.take(31, 2), Err(StandFault::Number(NumberFault::CountTooLarge)))?;
+    check_eq(
+        stand.take(32, 2),
+        Err(StandFault::Bay(BayFault::NoSuchBay(32))),
+    )?;
+    check_eq(
+        stand.take(31, 2),
+        Err(StandFault::Number(NumberFault::CountTooLarge)),
+    )?;
     check_eq(stand.take(31, 1), Err(StandFault::Bay(BayFault::Empty(31))))?;
     check_eq(stand.clear(31), Err(BayFault::Empty(31)))?;
     check_eq(stand.open(31), Ok(31))?;
@@ -55,11 +69,26 @@ fn refusals() -> Result<(), Fail> {
 #[test]
 fn two_bays() -> Result<(), Fail> {
     let mut stand: Stand<Mark, Single> = Stand::new(Single::new(SingleNumbers::check(2, 0)?));
-    let rejected = Record { size: 1, count: 1, verdict: Some(Verdict::Reject) };
-    let accepted = Record { size: 2, count: 0, verdict: Some(Verdict::Accept) };
+    let rejected = Record {
+        size: 1,
+        count: 1,
+        verdict: Some(Verdict::Reject),
+    };
+    let accepted = Record {
+        size: 2,
+        count: 0,
+        verdict: Some(Verdict::Accept),
+    };
     check_eq(stand.open(3), Ok(3))?;
     check_eq(stand.open(4), Ok(4))?;
-    check_eq(stand.take(3, 0), Ok(Record { size: 1, count: 0, verdict: None }))?;
+    check_eq(
+        stand.take(3, 0),
+        Ok(Record {
+            size: 1,
+            count: 0,
+            verdict: None,
+        }),
+    )?;
     check_eq(stand.take(4, 1), Ok(rejected))?;
     check_eq(stand.take(3, 0), Ok(accepted))?;
     check_eq(stand.clear(4), Ok(rejected))?;
@@ -70,14 +99,30 @@ fn two_bays() -> Result<(), Fail> {
 #[test]
 fn a_history() -> Result<(), Fail> {
     let mut history = [
-        Entry { call: Call::Open(3), reply: None },
-        Entry { call: Call::Take(3, 1), reply: None },
-        Entry { call: Call::Take(3, 0), reply: None },
+        Entry {
+            call: Call::Open(3),
+            reply: None,
+        },
+        Entry {
+            call: Call::Take(3, 1),
+            reply: None,
+        },
+        Entry {
+            call: Call::Take(3, 0),
+            reply: None,
+        },
     ];
     let stand: Stand<Mark, Single> = run(Single::new(SingleNumbers::check(2, 0)?), &mut history);
-    let rejected = Record { size: 1, count: 1, verdict: Some(Verdict::Reject) };
+    let rejected = Record {
+        size: 1,
+        count: 1,
+        verdict: Some(Verdict::Reject),
+    };
     check_eq(history[0].reply, Some(Ok(Reply::Opened(3))))?;
     check_eq(history[1].reply, Some(Ok(Reply::Lot(rejected))))?;
-    check_eq(history[2].reply, Some(Err(StandFault::Bay(BayFault::Decided(3)))))?;
+    check_eq(
+        history[2].reply,
+        Some(Err(StandFault::Bay(BayFault::Decided(3)))),
+    )?;
     check_eq(stand.read(3), Ok(rejected))
 }

@@ -11,8 +11,11 @@ use super::NumberFault;
 use super::SingleNumbers;
 
 pub const MAX_SIZE: u32 = 4096;
+
 pub const MAX_ACCEPTANCE: u32 = 253;
+
 pub const MAX_INTERCEPT: u32 = 10_000_000;
+
 pub const MAX_SLOPE: u32 = 999_999;
 
 // The number at a position of a plan, where it lies within its limits.

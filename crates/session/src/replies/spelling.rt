@@ -102,7 +102,11 @@ pub fn spell_answer(out: &mut [u8], answer: Answer) -> usize
 {
     match answer {
         Answer::Planned(last_size) => spell(out, b'P', &[Field::Count(last_size)]),
-        Answer::Served(call, Reply::Opened(bay)) => spell(out, call_letter(call), &[Field::Count(bay)]),
+        Answer::Served(call, Reply::Opened(bay)) => spell(
+            out,
+            call_letter(call),
+            &[Field::Count(bay)],
+        ),
         Answer::Served(call, Reply::Lot(lot)) => spell(
             out,
             call_letter(call),

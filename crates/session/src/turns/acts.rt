@@ -75,7 +75,14 @@ impl Session {
         Answer::Planned(base.last_size())
     }
 
-    fn choose_line(&mut self, accept_intercept: u64, reject_intercept: u64, slope: u64, cut_size: u32, cut_number: u32) -> Result<Answer, SessionFault>
+    fn choose_line(
+        &mut self,
+        accept_intercept: u64,
+        reject_intercept: u64,
+        slope: u64,
+        cut_size: u32,
+        cut_number: u32,
+    ) -> Result<Answer, SessionFault>
         ensures acts { λ r. ⌜ (view (now (self .exit)), told r) ≡ planned (view (now (self .entry))) (line-meaning «accept_intercept» «reject_intercept» slope «cut_size» «cut_number») (line-outside «accept_intercept» «reject_intercept» slope «cut_size» «cut_number») ⌝ }
         ensures line { λ _. ⌜ now (self .exit) .line ≡ now (self .entry) .line ⌝ }
     {
@@ -132,7 +139,13 @@ impl Session {
                 slope,
                 cut_size,
                 cut_number,
-            } => return self.choose_line(accept_intercept, reject_intercept, slope, cut_size, cut_number),
+            } => return self.choose_line(
+                accept_intercept,
+                reject_intercept,
+                slope,
+                cut_size,
+                cut_number,
+            ),
             Command::Single { last_size, number } => return self.choose_single(last_size, number),
             Command::Cut { size, number } => return self.choose_cut(size, number),
             Command::Open { bay } => Call::Open(bay),

@@ -22,12 +22,13 @@ loop-step-again g c =
     let served = c .call .ensures .served in
     let inside : i < length (c .loop-step .history) = omega (arith, c .loop-step-test .taken, c .loop-step .kept .history) in
     let new = wrote (c .loop-step .history) i _ (c .call .result) inside in
-    let lived = served-lived (g .K·Item .greatest) _ (g .P·Plan·met .lawful _) _ _ _ _ _ (inv .1) (inv .4) served in
-    (c .call .ensures .plan ∙ inv .0,
+    let lived = served-lived (g .K·Item .greatest) _ (g .P·Plan·met .lawful _) _ _ _ _ _ (inv .1) (inv .4) served in (
+      c .call .ensures .plan ∙ inv .0,
       ap length (served .bays) ∙ length-set _ _ _ ∙ inv .1,
       new .0 ∙ inv .2,
       ap length (new .1) ∙ length-push (steps (take i (c .loop-step .history))) _ ∙ ap (λ k. k + 1) (inv .3),
-      lived-at (ap (g .P·Plan .meaning) (sym (c .call .ensures .plan))) (sym (new .1)) lived)
+      lived-at (ap (g .P·Plan .meaning) (sym (c .call .ensures .plan))) (sym (new .1)) lived,
+    )
 
 pub returns : need.returns
 returns g c =
