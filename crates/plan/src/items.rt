@@ -2,7 +2,6 @@
 ghost use mathlib.Core.Path.{_≡_};
 ghost use Prim.Native.Nat.{ℕ, _≤_};
 ghost use Rattle.plan.specs.Items.{Kind, mark-score};
-ghost use Rattle.plan.specs.Limits.{max-count};
 
 // A kind of item. Each item gives a count from 0 to the greatest count, and each such count has an item.
 pub trait Item {

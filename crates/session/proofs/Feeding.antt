@@ -26,7 +26,6 @@ use Rattle.session.specs.Replies.{line-for, over}
 use Rattle.session.specs.Sessions.{Answered, heard, obeyed, next-line, reply-to, told-line}
 use Rattle.session.specs.Turns.{State, view}
 use Rattle.session.specs.declared.feeds.Feed.{Feed}
-use Rattle.session.specs.declared.feeds.Progress.{Progress}
 use Rattle.session.specs.declared.faults.RefusedLine.{RefusedLine}
 
 -- of a line only the first 96 bytes matter
@@ -247,13 +246,3 @@ none-begun f buffer r (b ∷ bs) e ok = absurd (let z : _≡_ {A = ℕ} 0 1 = cc
 pub some-begun : (f f′ : Feed) (buffer buffer′ : List ℕ) (r : Result ℕ (Refusal × ℕ)) (line : List ℕ) → (length line ≡ 0 → ⊥) → kept f′ ≡ [] → Answered (view (f .session)) (view (f′ .session)) (f .session .line) (f′ .session .line) line buffer buffer′ r → Finished f f′ line buffer buffer′ r
 some-begun f f′ buffer buffer′ r [] some none a = absurd (some refl)
 some-begun f f′ buffer buffer′ r (b ∷ bs) some none a = (none, a)
-
--- a buffer with room for a reply lets a feed read on
-pub moves : (f f′ : Feed) (input buffer buffer′ : List ℕ) (r : Progress) → Fed f f′ input buffer buffer′ r → 0 < length input → 96 ≤ length buffer → 0 < r .«read»
-moves f f′ input buffer buffer′ r fed some room = by-read (r .«read») refl
-  where
-    by-read : (k : ℕ) → r .«read» ≡ k → 0 < r .«read»
-    by-read zero e =
-        let none : r .written ≡ 0 = fed .written ∙ ap (λ n. length (transcript (view (f .session)) (f .session .line) (ended (kept f) (take n input)))) e in
-        absurd (omega (arith, fed .stops (omega arith)))
-    by-read (suc k) e = omega arith

@@ -25,21 +25,22 @@ use plan::plans::Plan;
 use plan::plans::rule;
 use std::marker::PhantomData;
 
+// How many bays a stand has.
 pub const BAYS: usize = 32;
 
 #[derive(Drop)]
 pub struct Stand<K, P> {
     plan: P,
-    bays: [Option<Record>; 32],
+    bays: [Option<Record>; BAYS],
     kind: PhantomData<K>,
     ghost small: { Small bays },
 }
 
 // What a bay holds; a bay above the last is refused.
-fn look(bays: &[Option<Record>; 32], bay: u32) -> Result<Option<Record>, BayFault>
+fn look(bays: &[Option<Record>; BAYS], bay: u32) -> Result<Option<Record>, BayFault>
     ensures { λ r. ⌜ Cases r (λ o. (bay < 32) × (o ≡ held (now (bays .entry)) bay)) (λ e. (31 < bay) × (e ≡ NoSuchBay bay)) ⌝ }
 {
-    if bay >= 32 {
+    if bay as usize >= BAYS {
         return Err(BayFault::NoSuchBay(bay));
     }
     Ok(bays[bay as usize])
@@ -59,7 +60,7 @@ impl<K: Item, P: Plan> Stand<K, P> {
     {
         Stand {
             plan,
-            bays: [None; 32],
+            bays: [None; BAYS],
             kind: PhantomData,
         }
     }

@@ -2,11 +2,10 @@
 ghost use mathlib.Core.Path.{_≡_};
 ghost use Rattle.stand.specs.Calls.{bay-of};
 ghost use Rattle.stand.specs.Refusals.{refused-bay, refused-call};
-ghost use Rattle.stand.specs.declared.records.StandFault.the-variants.{Number, Bay};
+ghost use Rattle.stand.specs.declared.records.StandFault.the-variants.{Bay};
 use crate::records::BayFault;
 use crate::records::Call;
 use crate::records::StandFault;
-use plan::numbers::NumberFault;
 use plan::refusals::Fault;
 use plan::refusals::Layer;
 use plan::refusals::NumberFaultFault;
@@ -52,14 +51,6 @@ pub impl Fault for StandFault as StandFaultFault {
             StandFault::Number(fault) => fault.refusal(),
             StandFault::Bay(fault) => fault.refusal(),
         }
-    }
-}
-
-pub impl From<NumberFault> for StandFault as StandFaultFromNumber {
-    ghost converts = { λ e r. r ≡ Number e };
-
-    fn from(e: NumberFault) -> StandFault {
-        StandFault::Number(e)
     }
 }
 
