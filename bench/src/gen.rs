@@ -60,7 +60,7 @@ struct Maker {
 
 impl Maker {
     fn new(seed: u64) -> Self {
-        Maker { random: Random(seed), model: Session::new(), text: Vec::new() }
+        Maker { random: Random(seed), model: Session::new(true), text: Vec::new() }
     }
 
     /// Writes a line; a line feed inside makes it several.
@@ -455,7 +455,7 @@ pub fn sessions(seed: u64, n: u64, dir: &Path) -> io::Result<()> {
 pub fn typical(seed: u64, lines: u64, file: &Path) -> io::Result<()> {
     let mut to = BufWriter::new(File::create(file)?);
     let mut random = Random(seed);
-    let mut model = Session::new();
+    let mut model = Session::new(true);
     let mut items = 0u64;
     for i in 0..lines {
         let bay = random.below(BAYS as u64);

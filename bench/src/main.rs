@@ -12,6 +12,7 @@ use std::path::Path;
 use std::process::ExitCode;
 
 const USAGE: &str = "usage: bench answer
+       bench plain
        bench simple
        bench sessions SEED N DIR
        bench typical SEED LINES FILE";
@@ -20,7 +21,8 @@ fn main() -> ExitCode {
     let args: Vec<String> = std::env::args().skip(1).collect();
     let words: Vec<&str> = args.iter().map(String::as_str).collect();
     let done = match words[..] {
-        ["answer"] => answer(feed::run),
+        ["answer"] => answer(|i, o| feed::run(i, o, true)),
+        ["plain"] => answer(|i, o| feed::run(i, o, false)),
         ["simple"] => answer(simple::run),
         ["sessions", seed, n, dir] => match (seed.parse(), n.parse()) {
             (Ok(seed), Ok(n)) => gen::sessions(seed, n, Path::new(dir)),

@@ -46,18 +46,20 @@ pub struct Session {
     turn: Turn,
     bays: [Bay; BAYS],
     line: u32,
+    /// Whether numbers come from a table of texts.
+    tuned: bool,
 }
 
 impl Session {
-    pub fn new() -> Self {
-        Session { pairs: Vec::new(), turn: Turn::Plan, bays: [NO_LOT; BAYS], line: 0 }
+    pub fn new(tuned: bool) -> Self {
+        Session { pairs: Vec::new(), turn: Turn::Plan, bays: [NO_LOT; BAYS], line: 0, tuned }
     }
 
     /// Answers a line without its line feed; gives the length of the reply.
     #[inline]
     pub fn answer(&mut self, line: &[u8], room: &mut [u8; REPLY_MAX]) -> usize {
         self.line = (self.line + 1).min(LINE_NUMBER_MAX);
-        let mut reply = Reply { room, len: 0 };
+        let mut reply = Reply { room, len: 0, tuned: self.tuned };
         if let Err(refusal) = self.accept(line, &mut reply) {
             reply.refuse(refusal, self.line);
         }
@@ -68,7 +70,7 @@ impl Session {
     #[inline]
     pub fn item(&mut self, bay: u32, count: u32, room: &mut [u8; REPLY_MAX]) -> usize {
         self.line = (self.line + 1).min(LINE_NUMBER_MAX);
-        let mut reply = Reply { room, len: 0 };
+        let mut reply = Reply { room, len: 0, tuned: self.tuned };
         if let Err(refusal) = self.take(bay, count, &mut reply) {
             reply.refuse(refusal, self.line);
         }
@@ -352,6 +354,7 @@ static SPACED: [[u8; 8]; SIZE_MAX as usize + 1] = {
 struct Reply<'a> {
     room: &'a mut [u8; REPLY_MAX],
     len: usize,
+    tuned: bool,
 }
 
 impl Reply<'_> {
@@ -364,6 +367,10 @@ impl Reply<'_> {
     /// A space and a number.
     #[inline]
     fn spaced(&mut self, n: u32) {
+        if !self.tuned {
+            self.byte(b' ');
+            return self.digits(n);
+        }
         match SPACED.get(n as usize) {
             Some(text) => {
                 self.room[self.len..self.len + 8].copy_from_slice(text);
@@ -371,6 +378,13 @@ impl Reply<'_> {
             }
             None => self.spaced_large(n),
         }
+    }
+
+    fn digits(&mut self, n: u32) {
+        if n >= 10 {
+            self.digits(n / 10);
+        }
+        self.byte(b'0' + (n % 10) as u8);
     }
 
     #[cold]
