@@ -1,4 +1,6 @@
 // Plans that can take each other's place.
+#![tactic(auto)]
+
 ghost use Rattle.std.specs.Prelude.{◌≡◌};
 ghost use Rattle.sheet.specs.Bytes.{sheet_bytes};
 ghost use Rattle.sheet.specs.Comparing.{Tells};

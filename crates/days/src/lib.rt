@@ -1,4 +1,6 @@
 // Days at the stand: sessions with the replies that were reckoned by hand.
+#![tactic(auto)]
+
 #[cfg(test)]
 mod sheets;
 

@@ -1,4 +1,6 @@
 // The inspection stand at a terminal or on a pipe: one reply line for each line of standard input.
+#![tactic(auto)]
+
 ghost use Rattle.std.specs.Prelude.{◌≤◌, length};
 
 use session::feeds::Feed;

@@ -1,4 +1,6 @@
 // Sampling plans: what a plan means, the makes of plan, kinds of item, and the ruling on a count.
+#![tactic(auto)]
+
 pub mod carried;
 pub mod cut;
 pub mod examples;

@@ -1,5 +1,7 @@
 // A sheet on standard input, loaded and drawn again on standard output, or the refusal. A number as argument has it
 // drawn that many times, for timing.
+#![tactic(auto)]
+
 use anyhow::anyhow;
 use plan::items::{FaultNumber, Item, Mark};
 use plan::refusals::Fault;

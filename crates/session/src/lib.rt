@@ -1,4 +1,6 @@
 // A session: one line in, one reply line out. Its items are marks.
+#![tactic(auto)]
+
 pub mod chosen;
 pub mod faults;
 pub mod feeds;

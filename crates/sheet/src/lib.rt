@@ -1,4 +1,6 @@
 // Acceptability sheets: which counts a plan lets a series reach, and how it rules on them.
+#![tactic(auto)]
+
 pub mod comparing;
 pub mod drawing;
 pub mod examples;

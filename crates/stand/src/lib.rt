@@ -1,4 +1,6 @@
 // The inspection stand: 32 bays, one lot to a bay, and one plan that rules on all of them.
+#![tactic(auto)]
+
 pub mod bays;
 pub mod calls;
 pub mod histories;

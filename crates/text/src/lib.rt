@@ -1,4 +1,6 @@
 // The lines of a session: reading a command, and assembling a reply.
+#![tactic(auto)]
+
 mod commands;
 mod cuts;
 mod numerals;

@@ -16,16 +16,16 @@ as_much r A B t f g = (λ x. f (t.0 x), λ b. t.1 (g b))
 
 pub returns : goal.returns
 returns g c =
-    let m = g.row.K-Item.greatest in
+    let m = g.K.Item.greatest in
     let kind = g.met.K.Item.kind in
     let p = g.P.Plan.meaning c.args.one.now in
     let q = g.Q.Plan.meaning c.args.other.now in
     let p-law = g.met.P.Plan.lawful c.args.one.now in
     let q-law = g.met.Q.Plan.lawful c.args.other.now in
-    let tells = c.same-sheet.ensures in
+    let tells = c.same_sheet.ensures in
     record {
       sheets = as_much _ _ _ tells (ap (bytes_of m)) (λ e. sym (sheet_reread m p p-law) ∙ ap rows_in e ∙ sheet_reread m q q-law);
-      ends = as_much _ _ _ tells (same_from_sheet m g.row.K-Item.score kind p q p-law q-law) (sheet_from_same m g.row.K-Item.score kind p q p-law q-law);
+      ends = as_much _ _ _ tells (same_from_sheet m g.K.Item.score kind p q p-law q-law) (sheet_from_same m g.K.Item.score kind p q p-law q-law);
       stands = as_much _ _ _ tells (λ e. reply_from_ends m p q (ends_from_sheet m p q p-law q-law e)) (λ a. sheet_from_ends m p q p-law q-law (ends_from_reply m p q a));
       lives = (lives m p, lives m q);
     }

@@ -9,6 +9,6 @@ returns c =
     let at = c.args.at in
     let same : at + (at + length part - at) ≡ at + length part = omega arith in
     record {
-      bytes = ap (λ ys. take at xs ++ (ys ++ drop (at + length part - at) (drop at xs))) c.copy-from-slice.ensures.after ∙ ap (λ l. take at xs ++ (part ++ l)) (drop-drop (at + length part - at) at xs ∙ ap (λ n. drop n xs) same);
+      bytes = ap (λ ys. take at xs ++ (ys ++ drop (at + length part - at) (drop at xs))) c.copy_from_slice.ensures.after ∙ ap (λ l. take at xs ++ (part ++ l)) (drop-drop (at + length part - at) at xs ∙ ap (λ n. drop n xs) same);
       place = refl;
     }

@@ -20,10 +20,10 @@ put-at-requires g c = row_fits _ _ _ _ _ _ _ _ (renamed _ _ c.in-Some.ensures.li
 pub loop-row-preserved : goal.loop-row-preserved
 loop-row-preserved g c =
     let row = c.in-Some.row in
-    let two = row_is _ _ row c.number_byte.ensures c.number-byte-in-Some.ensures in
-    row_drawn _ _ _ _ _ _ _ _ (renamed _ _ c.in-Some.ensures.lines c.loop-row.invariant) _ _ c.put_at.ensures.place (c.put_at.ensures.bytes ∙ ap (put_at c.loop-row.out c.loop-row.at) two)
+    let two = row_is _ _ row c.number_byte.ensures c.number_byte-in-Some.ensures in
+    row_drawn _ _ _ _ _ _ _ _ (renamed _ _ c.in-Some.ensures.lines c.loop-row.invariant) _ _ c.put-at.ensures.place (c.put-at.ensures.bytes ∙ ap (put_at c.loop-row.out c.loop-row.at) two)
 
 pub returns : goal.returns
 returns g c =
-    let all = rows_drawn _ _ _ _ _ _ (renamed _ _ c.in-default.ensures.lines c.loop-row.invariant) in
+    let all = rows_drawn _ _ _ _ _ _ (renamed _ _ c.in_default.ensures.lines c.loop-row.invariant) in
     record { bytes = all.0; place = all.1 }

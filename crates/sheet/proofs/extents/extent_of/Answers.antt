@@ -4,17 +4,17 @@ use Rattle.sheet.specs.Sheets.{lines, points_in, row_in}
 use Rattle.sheet.proofs.Steps.{sheet_few}
 use Rattle.sheet.proofs.extents.extent_of.Goals as goal
 
-pub overflow-add-rows : goal.overflow-add-rows
-overflow-add-rows g c =
-    let most = sheet_few g.row.K-Item.greatest _ (g.met.P.Plan.lawful c.args.plan.now) in
+pub overflow_add-rows : goal.overflow_add-rows
+overflow_add-rows g c =
+    let most = sheet_few g.K.Item.greatest _ (g.met.P.Plan.lawful c.args.plan.now) in
     let step = c.in-Some.ensures in
     let is = ap length step.lines in
     let small : c.loop-reached.rows + 1 ≤ 4096 = omega (arith, c.loop-reached.invariant.0) in
     search rules
 
-pub overflow-add-points : goal.overflow-add-points
-overflow-add-points g c =
-    let most = sheet_few g.row.K-Item.greatest _ (g.met.P.Plan.lawful c.args.plan.now) in
+pub overflow_add-points : goal.overflow_add-points
+overflow_add-points g c =
+    let most = sheet_few g.K.Item.greatest _ (g.met.P.Plan.lawful c.args.plan.now) in
     let step = c.in-Some.ensures in
     let is = ap length step.lines in
     let bounded = step.small _ refl in
@@ -23,9 +23,9 @@ overflow-add-points g c =
 
 pub returns : goal.returns
 returns g c =
-    let step = c.in-default.ensures in
+    let step = c.in_default.ensures in
     let inv = c.loop-reached.invariant in
     record {
-      rows = omega (arith, inv.0, ap length step.lines, length-map (lines g.row.K-Item.greatest (g.P.Plan.meaning c.args.plan.now)) row_in);
+      rows = omega (arith, inv.0, ap length step.lines, length-map (lines g.K.Item.greatest (g.P.Plan.meaning c.args.plan.now)) row_in);
       points = omega (arith, inv.1, ap points_in step.lines);
     }

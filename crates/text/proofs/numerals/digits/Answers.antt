@@ -16,11 +16,11 @@ returns-then-b-lt48 c =
     in
     sym (numeral_bad c.args.most xs (c.loop-b.invariant.0 ∙ bad))
 
-pub overflow-mul-n : goal.overflow-mul-n
-overflow-mul-n c = omega (arith, (room c.loop-b.n c.loop-b.b-index 0 c.loop-b.invariant.2 (omega arith) (omega arith)).0)
+pub overflow_mul-n : goal.overflow_mul-n
+overflow_mul-n c = omega (arith, (room c.loop-b.n c.loop-b.b-index 0 c.loop-b.invariant.2 (omega arith) (omega arith)).0)
 
-pub overflow-add-n : goal.overflow-add-n
-overflow-add-n c = omega (arith, (room c.loop-b.n c.loop-b.b-index 0 c.loop-b.invariant.2 (omega arith) (omega arith)).0)
+pub overflow_add-n : goal.overflow_add-n
+overflow_add-n c = omega (arith, (room c.loop-b.n c.loop-b.b-index 0 c.loop-b.invariant.2 (omega arith) (omega arith)).0)
 
 pub loop-b-preserved : goal.loop-b-preserved
 loop-b-preserved c =
@@ -36,5 +36,5 @@ returns c =
     let none = drop_all c.loop-b.b-index xs c.loop-b-test.false in
     let all = c.loop-b.invariant.0 ∙ ap all_ascii_digits none in
     let whole = c.loop-b.invariant.1 ∙ ap (value_after c.loop-b.n) none in
-    let some : 0 < length xs = omega (arith, eqb-false (length xs) 0 (sym c.if-is-empty.ensures)) in
+    let some : 0 < length xs = omega (arith, eqb-false (length xs) 0 (sym c.if-is_empty.ensures)) in
     sym (numeral_good c.args.most xs some c.if-word-most.false all ∙ ap Some whole)

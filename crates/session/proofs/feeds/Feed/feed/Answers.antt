@@ -15,10 +15,10 @@ there : (o : Option (Bor (List ℕ))) → is_some o ≡ true → (ys : List ℕ)
 there None e = absurd (both_ways false refl e)
 there (Some x) e = (x.now, refl)
 
-pub returns-then-is-none : goal.returns-then-is-none
-returns-then-is-none c =
+pub returns-then-is_none : goal.returns-then-is_none
+returns-then-is_none c =
     let rest = take_rest c.args.input.now c.loop-read.read in
-    rest_kept _ _ _ _ _ _ _ c.loop-read.invariant _ (c.cut.ensures.front ∙ ap (before 10) rest) _ (sym (c.cut.ensures.back ∙ ap (after 10) rest) ∙ gone _ c.if-is-none.ensures) refl refl c.put.ensures
+    rest_kept _ _ _ _ _ _ _ c.loop-read.invariant _ (c.cut.ensures.front ∙ ap (before 10) rest) _ (sym (c.cut.ensures.back ∙ ap (after 10) rest) ∙ gone _ c.if-is_none.ensures) refl refl c.put.ensures
 
 pub returns-after-loop-read : goal.returns-after-loop-read
 returns-after-loop-read c = stops _ _ _ _ _ _ _ c.loop-read.invariant (λ h. absurd (omega (arith, c.loop-read-test.false)))
@@ -30,5 +30,5 @@ pub loop-read-preserved : goal.loop-read-preserved
 loop-read-preserved c =
     let rest = take_rest c.args.input.now c.loop-read.read in
     let room = take_rest c.loop-read.buffer c.loop-read.written in
-    let some = there _ c.if-is-none.ensures in
-    line_fed _ _ _ _ _ _ _ c.loop-read.invariant _ (c.cut.ensures.front ∙ ap (before 10) rest) _ some.0 _ _ (sym (c.cut.ensures.back ∙ ap (after 10) rest) ∙ some.1) (subst (λ b. LineEnded c.loop-read.self c.end-line-written.new.self (kept c.loop-read.self ++ c.cut.result.0.now) b c.end-line-written.new.buffer c.end-line-written.result) room c.end-line-written.ensures) (omega (arith, c.if-buffer-written-lt-REPLY-ROOM.false))
+    let some = there _ c.if-is_none.ensures in
+    line_fed _ _ _ _ _ _ _ c.loop-read.invariant _ (c.cut.ensures.front ∙ ap (before 10) rest) _ some.0 _ _ (sym (c.cut.ensures.back ∙ ap (after 10) rest) ∙ some.1) (subst (λ b. LineEnded c.loop-read.self c.end_line-written.new.self (kept c.loop-read.self ++ c.cut.result.0.now) b c.end_line-written.new.buffer c.end_line-written.result) room c.end_line-written.ensures) (omega (arith, c.if-buffer-written-lt-REPLY-ROOM.false))

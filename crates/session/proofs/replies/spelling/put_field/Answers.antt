@@ -5,11 +5,11 @@ use Rattle.session.specs.Replies.{field_text}
 use Rattle.text.proofs.WriteLaws.{put_then, place_then, length_put}
 use Rattle.session.proofs.replies.spelling.put_field.Goals as goal
 
-pub put-number-requires : goal.put-number-requires
-put-number-requires c =
+pub put_number-requires : goal.put_number-requires
+put_number-requires c =
     let fits : c.in-Count.n < 2 ^ 32 = search rules in
     let room : c.args.at + 1 ≤ length c.args.out.now = omega (arith, c.requires) in
-    omega (arith, c.requires, c.put-byte-at.ensures.place, length_decimal_u32 c.in-Count.n fits, ap length c.put-byte-at.ensures.bytes ∙ length_put c.args.out.now c.args.at (32 ∷ []) room)
+    omega (arith, c.requires, c.put_byte-at.ensures.place, length_decimal_u32 c.in-Count.n fits, ap length c.put_byte-at.ensures.bytes ∙ length_put c.args.out.now c.args.at (32 ∷ []) room)
 
 pub returns-in-Count : goal.returns-in-Count
 returns-in-Count c =
@@ -18,8 +18,8 @@ returns-in-Count c =
     let room : c.args.at + 1 ≤ length c.args.out.now = omega (arith, c.requires) in
     let is = ap field_text (sym c.in-Count.is) in
     record {
-      bytes = put_then _ _ _ _ _ (32 ∷ []) (decimal n) room c.put-byte-at.ensures.bytes c.put-byte-at.ensures.place c.put-number.ensures.bytes ∙ ap (λ l. put_at c.args.out.now c.args.at (32 ∷ l)) is;
-      place = place_then _ _ _ (32 ∷ []) (decimal n) c.put-byte-at.ensures.place c.put-number.ensures.place ∙ ap (λ l. c.args.at + length (32 ∷ l)) is;
+      bytes = put_then _ _ _ _ _ (32 ∷ []) (decimal n) room c.put_byte-at.ensures.bytes c.put_byte-at.ensures.place c.put_number.ensures.bytes ∙ ap (λ l. put_at c.args.out.now c.args.at (32 ∷ l)) is;
+      place = place_then _ _ _ (32 ∷ []) (decimal n) c.put_byte-at.ensures.place c.put_number.ensures.place ∙ ap (λ l. c.args.at + length (32 ∷ l)) is;
       short = subst (λ l. length l ≤ 10) is (length_decimal_u32 n fits);
     }
 
@@ -29,7 +29,7 @@ returns-in-Letter c =
     let room : c.args.at + 1 ≤ length c.args.out.now = omega (arith, c.requires) in
     let is = ap field_text (sym c.in-Letter.is) in
     record {
-      bytes = put_then _ _ _ _ _ (32 ∷ []) (b ∷ []) room c.put-byte-at.ensures.bytes c.put-byte-at.ensures.place c.put-byte.ensures.bytes ∙ ap (λ l. put_at c.args.out.now c.args.at (32 ∷ l)) is;
-      place = place_then _ _ _ (32 ∷ []) (b ∷ []) c.put-byte-at.ensures.place c.put-byte.ensures.place ∙ ap (λ l. c.args.at + length (32 ∷ l)) is;
+      bytes = put_then _ _ _ _ _ (32 ∷ []) (b ∷ []) room c.put_byte-at.ensures.bytes c.put_byte-at.ensures.place c.put_byte.ensures.bytes ∙ ap (λ l. put_at c.args.out.now c.args.at (32 ∷ l)) is;
+      place = place_then _ _ _ (32 ∷ []) (b ∷ []) c.put_byte-at.ensures.place c.put_byte.ensures.place ∙ ap (λ l. c.args.at + length (32 ∷ l)) is;
       short = subst (λ l. length l ≤ 10) is (omega arith);
     }

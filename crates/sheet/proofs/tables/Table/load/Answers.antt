@@ -6,62 +6,67 @@ use Rattle.sheet.proofs.Exactness.{exact, fine_from, rows_most, rows_some}
 use Rattle.sheet.proofs.Outcomes.{refused_for, no_memory, taken, keeps_few, keeps_sound, keeps_closing}
 use Rattle.sheet.proofs.tables.Table.load.Goals as goal
 
-pub returns-in-err-rows-checked : goal.returns-in-err-rows-checked
-returns-in-err-rows-checked g c =
-    let m = g.row.K-Item.greatest in
+pub returns-in_err-rows_checked : goal.returns-in_err-rows_checked
+returns-in_err-rows_checked g c =
+    let m = g.K.Item.greatest in
     let bytes = c.args.bytes.now in
-    let p = err_from_is_err_and c.from-residual.result c.from-residual.ensures.1 in
-    let fault = ap (λ k. fault_in k bytes) (sym c.greatest-count.ensures) ∙ c.in-err-rows-checked.ensures in
+    let p = err_from_is_err_and c.from_residual.result c.from_residual.ensures.1 in
+    let fault = ap (λ k. fault_in k bytes) (sym c.greatest_count.ensures) ∙ c.in_err-rows_checked.ensures in
     let d = refused_for m bytes c.args.self.now _ _ (p.1 ∙ ap Err p.2) fault in
-    record { loaded = d.0; exact = exact m bytes (c.type-inv.bytes 6).fits; redrawn = d.1 }
+    record { loaded = d.0; exact = exact m bytes (c.type_inv.bytes 6).fits; redrawn = d.1 }
 
-pub returns-in-err-rows : goal.returns-in-err-rows
-returns-in-err-rows g c =
-    let m = g.row.K-Item.greatest in
+pub returns-in_err-rows : goal.returns-in_err-rows
+returns-in_err-rows g c =
+    let m = g.K.Item.greatest in
     let bytes = c.args.bytes.now in
-    let p = err_from_is_err_and c.from-residual-in-err-rows.result c.from-residual-in-err-rows.ensures.1 in
-    let none = ap (λ k. fault_in k bytes) (sym c.greatest-count.ensures) ∙ c.in-ok-rows-checked.ensures.0 in
+    let p = err_from_is_err_and c.from_residual-in_err-rows.result c.from_residual-in_err-rows.ensures.1 in
+    let none = ap (λ k. fault_in k bytes) (sym c.greatest_count.ensures) ∙ c.in_ok-rows_checked.ensures.0 in
     let d = no_memory m bytes c.args.self.now _ (p.1 ∙ ap Err p.2) none in
-    record { loaded = d.0; exact = exact m bytes (c.type-inv.bytes 6).fits; redrawn = d.1 }
+    record { loaded = d.0; exact = exact m bytes (c.type_inv.bytes 6).fits; redrawn = d.1 }
 
-pub overflow-cast-count : goal.overflow-cast-count
-overflow-cast-count g c =
+pub overflow_cast-count : goal.overflow_cast-count
+overflow_cast-count g c =
     let bytes = c.args.bytes.now in
-    let none = ap (λ k. fault_in k bytes) (sym c.greatest-count.ensures) ∙ c.in-ok-rows-checked.ensures.0 in
+    let none = ap (λ k. fault_in k bytes) (sym c.greatest_count.ensures) ∙ c.in_ok-rows_checked.ensures.0 in
     let most = rows_most _ bytes (fine_from _ bytes none) in
-    let items = ap length (c.in-ok-rows.ensures ∙ ap rows_of c.in-ok-rows-checked.ensures.1) in
-    let few : c.len-count.result ≤ 4096 = omega (arith, c.len-count.ensures, c.in-ok-rows.rows.ok.0) in
+    let items = ap length (c.in_ok-rows.ensures ∙ ap rows_of c.in_ok-rows_checked.ensures.1) in
+    let few : c.len-count.result ≤ 4096 = omega (arith, c.len-count.ensures, c.in_ok-rows.rows.ok.0) in
     search rules
 
-pub invariant-of-drop : goal.invariant-of-drop
-invariant-of-drop g c =
-    let m = g.row.K-Item.greatest in
+pub invariant_of-drop : goal.invariant_of-drop
+invariant_of-drop g c =
+    let m = g.K.Item.greatest in
     let bytes = c.args.bytes.now in
     let left = vec_items c.pop.new.self in
     let last = c.in-Some.last in
-    let none = ap (λ k. fault_in k bytes) (sym c.greatest-count.ensures) ∙ c.in-ok-rows-checked.ensures.0 in
-    let all = sym c.in-Some.ensures.items ∙ c.in-ok-rows.ensures ∙ ap rows_of c.in-ok-rows-checked.ensures.1 in
-    let closing = to_z-of_z w32 c.closing_of.result (record { sfits = c.closing_of.type-inv }) ∙ c.closing_of.ensures in
+    let none = ap (λ k. fault_in k bytes) (sym c.greatest_count.ensures) ∙ c.in_ok-rows_checked.ensures.0 in
+    let all = sym c.in-Some.ensures.items ∙ c.in_ok-rows.ensures ∙ ap rows_of c.in_ok-rows_checked.ensures.1 in
+    let closing = to_z-of_z w32 c.closing_of.result (record { sfits = c.closing_of.type_inv }) ∙ c.closing_of.ensures in
     let bounds = keeps_closing m bytes none left last all in
-    (omega (arith, keeps_few m bytes none left last all, c.pop.new.self.ok.0), (keeps_sound m bytes none left last all, (subst (λ z. negsuc 0 ≤ℤ z) (sym closing) bounds.0, (subst (λ z. z ≤ℤ pos 253) (sym closing) bounds.1, tt))))
+    record {
+      few = omega (arith, keeps_few m bytes none left last all, c.pop.new.self.ok.0);
+      sound = keeps_sound m bytes none left last all;
+      floor = subst (λ z. negsuc 0 ≤ℤ z) (sym closing) bounds.0;
+      roof = subst (λ z. z ≤ℤ pos 253) (sym closing) bounds.1;
+    }
 
 pub returns-in-Some : goal.returns-in-Some
 returns-in-Some g c =
-    let m = g.row.K-Item.greatest in
+    let m = g.K.Item.greatest in
     let bytes = c.args.bytes.now in
     let left = vec_items c.pop.new.self in
     let last = c.in-Some.last in
-    let none = ap (λ k. fault_in k bytes) (sym c.greatest-count.ensures) ∙ c.in-ok-rows-checked.ensures.0 in
-    let all = sym c.in-Some.ensures.items ∙ c.in-ok-rows.ensures ∙ ap rows_of c.in-ok-rows-checked.ensures.1 in
-    let closing = to_z-of_z w32 c.closing_of.result (record { sfits = c.closing_of.type-inv }) ∙ c.closing_of.ensures in
+    let none = ap (λ k. fault_in k bytes) (sym c.greatest_count.ensures) ∙ c.in_ok-rows_checked.ensures.0 in
+    let all = sym c.in-Some.ensures.items ∙ c.in_ok-rows.ensures ∙ ap rows_of c.in_ok-rows_checked.ensures.1 in
+    let closing = to_z-of_z w32 c.closing_of.result (record { sfits = c.closing_of.type_inv }) ∙ c.closing_of.ensures in
     let number : c.len-count.result ≡ length left + 1 = omega (arith, c.len-count.ensures, c.in-Some.ensures.len, c.pop.new.self.ok.0) in
-    let d = taken m bytes none left last all (c.type-inv.bytes 6).fits c.args.self.now _ _ refl closing number in
-    record { loaded = d.0; exact = exact m bytes (c.type-inv.bytes 6).fits; redrawn = d.1 }
+    let d = taken m bytes none left last all (c.type_inv.bytes 6).fits c.args.self.now _ _ refl closing number in
+    record { loaded = d.0; exact = exact m bytes (c.type_inv.bytes 6).fits; redrawn = d.1 }
 
-pub returns-in-default : goal.returns-in-default
-returns-in-default g c =
+pub returns-in_default : goal.returns-in_default
+returns-in_default g c =
     let bytes = c.args.bytes.now in
-    let none = ap (λ k. fault_in k bytes) (sym c.greatest-count.ensures) ∙ c.in-ok-rows-checked.ensures.0 in
+    let none = ap (λ k. fault_in k bytes) (sym c.greatest_count.ensures) ∙ c.in_ok-rows_checked.ensures.0 in
     let some = rows_some _ bytes (fine_from _ bytes none) in
-    let items = ap length (c.in-ok-rows.ensures ∙ ap rows_of c.in-ok-rows-checked.ensures.1) in
-    absurd (omega (arith, c.in-default.ensures.cases.0, c.in-ok-rows.rows.ok.0))
+    let items = ap length (c.in_ok-rows.ensures ∙ ap rows_of c.in_ok-rows_checked.ensures.1) in
+    absurd (omega (arith, c.in_default.ensures.cases.0, c.in_ok-rows.rows.ok.0))

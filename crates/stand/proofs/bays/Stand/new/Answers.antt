@@ -1,5 +1,5 @@
 use Rattle.stand.proofs.Emptiness.{small_none}
 use Rattle.stand.proofs.bays.Stand.new.Goals as goal
 
-pub invariant-of-result : goal.invariant-of-result
-invariant-of-result g c = (small_none 32, tt)
+pub invariant_of-result : goal.invariant_of-result
+invariant_of-result g c = record { small = small_none 32 }

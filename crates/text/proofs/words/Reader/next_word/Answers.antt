@@ -5,9 +5,9 @@ use Rattle.text.proofs.words.Reader.next_word.Goals as goal
 
 pub returns : goal.returns
 returns c =
-    let cuts = left_cut c.args.self.now c.in-ok-self.field-0 c.in-ok-self.was in
+    let cuts = left_cut c.args.self.now c.in_ok-self.field-0 c.in_ok-self.was in
     record {
       word = ap Some c.cut.ensures.front ∙ sym (ap first_word cuts);
       rest = ap words_in c.cut.ensures.back ∙ sym (ap other_words cuts);
-      position = c.saturating-add-self.ensures;
+      position = c.saturating_add-self.ensures;
     }
