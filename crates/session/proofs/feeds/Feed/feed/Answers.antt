@@ -23,12 +23,12 @@ returns-then-is_none c =
 pub returns-after-loop-read : goal.returns-after-loop-read
 returns-after-loop-read c = stops _ _ _ _ _ _ _ c.loop-read.invariant (λ h. absurd (omega (arith, c.loop-read-test.false)))
 
-pub returns-then-buffer-written-lt-REPLY-ROOM : goal.returns-then-buffer-written-lt-REPLY-ROOM
-returns-then-buffer-written-lt-REPLY-ROOM c = stops _ _ _ _ _ _ _ c.loop-read.invariant (λ h. omega (arith, c.if-buffer-written-lt-REPLY-ROOM.true, c.loop-read.auto.buffer, c.loop-read.invariant.room))
+pub returns-then-buffer-written-lt-REPLY_ROOM : goal.returns-then-buffer-written-lt-REPLY_ROOM
+returns-then-buffer-written-lt-REPLY_ROOM c = stops _ _ _ _ _ _ _ c.loop-read.invariant (λ h. omega (arith, c.if-buffer-written-lt-REPLY_ROOM.true, c.loop-read.auto.buffer, c.loop-read.invariant.room))
 
 pub loop-read-preserved : goal.loop-read-preserved
 loop-read-preserved c =
     let rest = take_rest c.args.input.now c.loop-read.read in
     let room = take_rest c.loop-read.buffer c.loop-read.written in
     let some = there _ c.if-is_none.ensures in
-    line_fed _ _ _ _ _ _ _ c.loop-read.invariant _ (c.cut.ensures.front ∙ ap (before 10) rest) _ some.0 _ _ (sym (c.cut.ensures.back ∙ ap (after 10) rest) ∙ some.1) (subst (λ b. LineEnded c.loop-read.self c.end_line-written.new.self (kept c.loop-read.self ++ c.cut.result.0.now) b c.end_line-written.new.buffer c.end_line-written.result) room c.end_line-written.ensures) (omega (arith, c.if-buffer-written-lt-REPLY-ROOM.false))
+    line_fed _ _ _ _ _ _ _ c.loop-read.invariant _ (c.cut.ensures.front ∙ ap (before 10) rest) _ some.0 _ _ (sym (c.cut.ensures.back ∙ ap (after 10) rest) ∙ some.1) (subst (λ b. LineEnded c.loop-read.self c.end_line-written.new.self (kept c.loop-read.self ++ c.cut.result.0.now) b c.end_line-written.new.buffer c.end_line-written.result) room c.end_line-written.ensures) (omega (arith, c.if-buffer-written-lt-REPLY_ROOM.false))

@@ -9,7 +9,7 @@ pub returns : goal.returns
 returns c =
     let s = view c.args.self.now in
     let line = c.args.line.now in
-    let long : ltb (length c.args.buffer.now) 96 ≡ false = le-ltb _ _ c.if-buffer-lt-REPLY-ROOM.false in
+    let long : ltb (length c.args.buffer.now) 96 ≡ false = le-ltb _ _ c.if-buffer-lt-REPLY_ROOM.false in
     let numbered : c.min-self.result ≡ next_line c.args.self.now.line = omega (arith, c.min-self.ensures, c.saturating_add.ensures) in
     let spelt = subst (λ n. Spelt (reply_to s line n) c.args.buffer.now c.reply.new.buffer c.reply.result) numbered c.reply.ensures.spelt in
     record {
