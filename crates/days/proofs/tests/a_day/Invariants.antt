@@ -2,4 +2,4 @@ use Rattle.std.proofs.Common.{◌≡◌, length}
 use Rattle.days.proofs.tests.a_day.Given as goal
 
 abbrev pub invariant-loop-line : goal.invariant-loop-line
-invariant-loop-line l = length l.buffer ≡ 100
+invariant-loop-line g l = length l.buffer ≡ 100
