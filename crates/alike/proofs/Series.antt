@@ -18,7 +18,6 @@ use Rattle.sheet.specs.Series.{EndAlike}
 use Rattle.alike.specs.Lives.{Life, ReplyAlike, call_in}
 use Rattle.alike.proofs.Endings.{ends_on, undecided}
 use Rattle.alike.proofs.Growth.{grow, lives, told_once}
-use Rattle.alike.proofs.Replies.{reply_from_ends}
 
 -- a lot in bay 0 to which items of a series were taken, up to the end of the series
 module _ (m : ℕ) (p : Boundary) (xs : List ℕ) (small : All (λ x. x ≤ m) xs) (n : ℕ) (v : Verdict) (ends : Ends p xs n v) where

@@ -1,8 +1,8 @@
 -- The rows of the constant table are the rows of the carried lines. Assumes nothing.
-use Rattle.std.proofs.Common.{◌≡◌, ℕ, ◌+◌, ◌<◌, ◌≤◌, Bool, true, false, cond, eqb, List, [], ◌∷◌, map, length, get_or, drop, Some, None, Option, sym, refl, ap, ◌∙◌, subst}
+use Rattle.std.proofs.Common.{◌≡◌, ℕ, ◌+◌, ◌<◌, ◌≤◌, List, ◌∷◌, map, length, get_or, drop, Some, None, Option, sym, ap, ◌∙◌}
 use Rattle.std.proofs.lemmas.List.{at_drop_more, at_drop_all}
 use Rattle.std.proofs.lemmas.Bool.{cond-true, cond-false, eq-eqb, ne_eqb}
-use Rattle.plan.specs.Carried.{Five, carried_lines, line_of, Holds}
+use Rattle.plan.specs.Carried.{Five, line_of}
 use Rattle.plan.specs.Rows.{row_of}
 use Rattle.plan.specs.declared.carried.CarriedLine.{CarriedLine}
 

@@ -1,5 +1,5 @@
 -- The carried lines. Assumes nothing.
-use Rattle.std.specs.Prelude.{◌≡◌, ℕ, Bool, true, cond, not, ◌&&◌, List, [], ◌∷◌, is_some, Some, None, Option, ◌==◌}
+use Rattle.std.specs.Prelude.{ℕ, Bool, true, cond, not, ◌&&◌, List, [], ◌∷◌, is_some, Some, None, Option, ◌==◌}
 use Rattle.plan.specs.Checks.{LineHolds, line_outside}
 use Rattle.plan.specs.declared.numbers.LineNumbers.{LineNumbers}
 

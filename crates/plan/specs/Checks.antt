@@ -1,5 +1,5 @@
 -- The checks of plan numbers: the first number outside its limits is named by its position. Assumes nothing.
-use Rattle.std.specs.Prelude.{◌≡◌, ℕ, ◌+◌, Bool, true, false, cond, ◌&&◌, List, [], ◌∷◌, Some, None, Ok, Err, Option, Result, nat_le}
+use Rattle.std.specs.Prelude.{◌≡◌, ℕ, ◌+◌, Bool, cond, ◌&&◌, List, [], ◌∷◌, Some, None, Ok, Err, Option, Result, nat_le}
 use Rattle.plan.specs.Limits.{max_size, max_acceptance, max_intercept, max_slope}
 use Rattle.plan.specs.declared.numbers.NumberFault.{NumberFault}
 use Rattle.plan.specs.declared.numbers.NumberFault.TheVariants.{OutsideLimits}

@@ -1,5 +1,5 @@
 -- Examples that were reckoned by hand: the carried line for consumer's risk quality 10.0 %, and marks. Assumes nothing.
-use Rattle.std.specs.Prelude.{◌≡◌, ℕ, ◌≤◌, List, [], ◌∷◌, ◌++◌, length, take, replicate, ℤ, pos, negsuc, Some, None}
+use Rattle.std.specs.Prelude.{◌≡◌, ℕ, ◌≤◌, List, [], ◌∷◌, ◌++◌, take, replicate, ℤ, pos, negsuc, Some, None}
 use Rattle.plan.specs.Boundaries.{Boundary, acceptance, rejection}
 use Rattle.plan.specs.Carried.{carried_lines, line_of}
 use Rattle.plan.specs.Makes.{line_meaning}

@@ -1,5 +1,5 @@
 -- The bounds of the product, each under one name. Assumes nothing.
-use Rattle.std.specs.Prelude.{ℕ, ◌+◌, ◌≤◌}
+use Rattle.std.specs.Prelude.{ℕ, ◌≤◌}
 
 -- the greatest last size of a plan
 abbrev pub max_size : ℕ

@@ -1,5 +1,5 @@
 -- The ruling on a count, and where a plan ends a series of counts. Assumes nothing.
-use Rattle.std.specs.Prelude.{◌≡◌, ℕ, ◌+◌, ◌<◌, ◌≤◌, cond, List, [], ◌∷◌, length, take, ℤ, pos, ◌≤ℤ◌, ◌<ℤ◌, Some, None, Option, MatchOption, int_le}
+use Rattle.std.specs.Prelude.{ℕ, ◌+◌, ◌<◌, ◌≤◌, cond, List, [], ◌∷◌, length, take, ℤ, pos, ◌≤ℤ◌, ◌<ℤ◌, Some, None, Option, int_le}
 use Rattle.plan.specs.Boundaries.{Boundary, HasSize, asked}
 use Rattle.plan.specs.declared.verdicts.Verdict.{Verdict}
 use Rattle.plan.specs.declared.verdicts.Verdict.TheVariants.{Accept, Reject}

@@ -1,17 +1,17 @@
 -- Lines of an input, answered as they end. Assumes nothing.
-use Rattle.std.proofs.Common.{◌≡◌, ℕ, zero, suc, ◌+◌, ◌-◌, ◌<◌, ◌≤◌, min, Bool, true, false, cond, eqb, ltb, leb, ◌⊎◌, List, [], ◌∷◌, ◌++◌, length, get_or, take, drop, Some, None, Ok, Err, Result, sym, refl, ap, ◌∙◌, subst, inl, inr, ⊎_elim, append_assoc, append-nil, arith}
+use Rattle.std.proofs.Common.{◌≡◌, ℕ, ◌+◌, ◌-◌, ◌<◌, ◌≤◌, min, Bool, true, false, cond, eqb, ltb, leb, List, [], ◌∷◌, ◌++◌, length, take, drop, Some, None, Ok, Err, Result, sym, refl, ap, ◌∙◌, ⊎_elim, append_assoc, append-nil, arith}
 use Rattle.std.proofs.lemmas.List.{take_all, take_at, take-take, take-append-drop, drop_at, drop_all, drop-drop, drop-take, length-append, length-drop, length_push, length-take}
 use borrow.Rule.Slice.PartMut.{put_mid}
-use Rattle.std.proofs.lemmas.Bool.{cond-true, cond-false, cases_lt, le-ltb, le-leb, lt-leb, eqb-true}
+use Rattle.std.proofs.lemmas.Bool.{cond-false, cases_lt, le-ltb, lt-leb, eqb-true}
 use Rattle.std.specs.Result.{result_unwrap_or}
 use Rattle.plan.specs.declared.refusals.Refusal.{Refusal}
 use Rattle.text.specs.Commands.{command_of, command_in}
 use Rattle.text.specs.Cuts.{before, after}
 use Rattle.text.specs.Readers.{unreadable}
-use Rattle.text.specs.Texts.{added, written}
+use Rattle.text.specs.Texts.{added}
 use Rattle.text.specs.Words.{words}
 use Rattle.text.proofs.TextLaws.{written_short}
-use Rattle.session.specs.Feeds.{Fed, Finished, LineEnded, ended, kept, kept_most, unended, transcript, state_after, number_after}
+use Rattle.session.specs.Feeds.{Fed, Finished, LineEnded, ended, kept, unended, transcript, state_after, number_after}
 use Rattle.text.specs.Writes.{over}
 use Rattle.session.specs.Replies.{line_for}
 use Rattle.session.specs.Sessions.{Answered, heard, obeyed, next_line, reply_to, told_line}

@@ -1,14 +1,13 @@
 -- The laws of lines and of pieces. Assumes nothing.
-use Rattle.std.proofs.Common.{◌≡◌, ℕ, ◌≤◌, Bool, true, false, cond, eqb, List, [], ◌∷◌, ◌++◌, length, take, sym, refl, ap, ◌∙◌, subst, ⊎_elim, append_assoc, append-nil, arith}
+use Rattle.std.proofs.Common.{◌≡◌, ℕ, Bool, true, false, cond, eqb, List, [], ◌∷◌, ◌++◌, take, sym, refl, ap, ◌∙◌, subst, append_assoc, append-nil, arith}
 use Rattle.std.proofs.ByRecursion.{All-push}
 use Rattle.std.proofs.lemmas.List.{take-take}
 use Rattle.std.proofs.lemmas.Bool.{eqb-true, eqb-false}
-use Rattle.std.specs.List.{AllByRecursion as All}
 use Rattle.text.proofs.TextLaws.{added_added}
 use Rattle.text.specs.Texts.{added}
-use Rattle.session.specs.Feeds.{ended, unended, closed, NoFeed, Parted, LinesPart, Joined, PiecesJoin, transcript, state_after, number_after, kept_most}
+use Rattle.session.specs.Feeds.{ended, unended, closed, NoFeed, Parted, LinesPart, PiecesJoin, transcript, state_after, number_after}
 use Rattle.session.specs.Replies.{line_for}
-use Rattle.session.specs.Sessions.{heard, next_line, reply_to}
+use Rattle.session.specs.Sessions.{heard, next_line}
 use Rattle.session.specs.Turns.{State}
 use Rattle.session.proofs.Feeding.{ended_append, unended_append, transcript_append, state_append, number_append, same_heard}
 

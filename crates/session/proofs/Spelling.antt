@@ -1,9 +1,8 @@
 -- Bytes written over a buffer, one part after another. Assumes nothing.
-use Rattle.std.proofs.Common.{◌≡◌, ℕ, ◌+◌, ◌*◌, ◌/◌, ◌%◌, ◌^◌, ◌<◌, ◌≤◌, min, List, [], ◌∷◌, ◌++◌, map, length, get_or, take, drop, set, decimal, sym, refl, ap, ◌∙◌, subst, append_assoc, append-nil, add_assoc, zero-add, add-one, one-add, arith}
-use Rattle.std.proofs.lemmas.Fmt.{decimal_digit, decimal_step}
-use Rattle.std.proofs.lemmas.List.{map_more, length-append, length-drop, length-take-le, set_split, take_at, drop_at, drop-drop, take_all, take-append-drop}
+use Rattle.std.proofs.Common.{◌≡◌, ℕ, ◌+◌, ◌*◌, ◌<◌, ◌≤◌, List, [], ◌∷◌, ◌++◌, map, length, get_or, take, sym, refl, ap, ◌∙◌, append_assoc, append-nil, one-add, arith}
+use Rattle.std.proofs.lemmas.List.{map_more, take_all, take-append-drop}
 use Rattle.text.specs.Words.{spaced_on}
-use Rattle.text.specs.Writes.{over, put_at}
+use Rattle.text.specs.Writes.{put_at}
 use Rattle.text.proofs.WriteLaws.{over_put, put_then, place_then}
 use Rattle.session.specs.Replies.{field_text, reply_line, Spelt}
 use Rattle.session.specs.declared.replies.Field.{Field}

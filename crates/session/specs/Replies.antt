@@ -8,7 +8,6 @@ use Rattle.plan.specs.declared.verdicts.Verdict.TheVariants.{Accept, Reject}
 use Rattle.stand.specs.Calls.{bay_of}
 use Rattle.stand.specs.declared.records.Call.{Call}
 use Rattle.stand.specs.declared.records.Call.TheVariants.{Open, Take, Read, Clear}
-use Rattle.stand.specs.declared.records.Reply.{Reply}
 use Rattle.stand.specs.declared.records.Reply.TheVariants.{Opened, Lot}
 use Rattle.text.specs.Words.{spaced_on}
 use Rattle.text.specs.Writes.{over}

@@ -1,5 +1,5 @@
 -- The turns of a session: what a command does, and what it is answered. Assumes nothing.
-use Rattle.std.specs.Prelude.{ℕ, cond, List, replicate, Some, None, Ok, Err, Option, Result, slice_set}
+use Rattle.std.specs.Prelude.{ℕ, List, replicate, Some, None, Ok, Err, Option, Result, slice_set}
 use Rattle.plan.specs.Boundaries.{Boundary}
 use Rattle.plan.specs.Checks.{line_outside, size_outside}
 use Rattle.plan.specs.Makes.{line_meaning, single_meaning, cut_meaning}

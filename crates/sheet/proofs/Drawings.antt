@@ -1,12 +1,12 @@
 -- A sheet drawn row by row. Assumes nothing.
-use Rattle.std.proofs.Common.{◌≡◌, ℕ, ◌+◌, ◌*◌, ◌<◌, ◌≤◌, true, false, cond, ltb, List, [], ◌∷◌, ◌++◌, map, length, take, drop, Ok, Err, sym, refl, ap, ◌∙◌, subst, append_assoc, append-nil, add-zero, arith}
+use Rattle.std.proofs.Common.{◌≡◌, ℕ, ◌+◌, ◌*◌, ◌<◌, ◌≤◌, true, false, ltb, List, [], ◌∷◌, ◌++◌, map, length, take, drop, Ok, Err, sym, refl, ap, ◌∙◌, append_assoc, append-nil, add-zero, arith}
 use Rattle.std.specs.List.{flat_map}
 use Rattle.std.proofs.lemmas.List.{length-append, take-append-drop}
 use Rattle.std.proofs.lemmas.Bool.{cond-true, cond-false, le-ltb, lt-ltb}
 use Rattle.plan.specs.Boundaries.{Boundary}
 use Rattle.plan.specs.Refusals.{refuse}
 use Rattle.plan.specs.declared.refusals.Layer.TheVariants.{Memory}
-use Rattle.text.specs.Writes.{over, put_at}
+use Rattle.text.specs.Writes.{put_at}
 use Rattle.text.proofs.WriteLaws.{length_put, over_put, put_then}
 use Rattle.sheet.specs.Bytes.{Drawn, bytes_of, header, number_byte, row_bytes, sheet_bytes}
 use Rattle.sheet.specs.Sheets.{Line, lines, row_in, sheet}

@@ -1,12 +1,11 @@
 -- Bytes without a fault are the sheet of a lawful plan, and such a sheet has none. Assumes nothing.
-use Rattle.std.proofs.Common.{◌≡◌, ℕ, zero, suc, ◌+◌, ◌-◌, ◌*◌, ◌/◌, ◌%◌, ◌<◌, ◌≤◌, min, max, Bool, true, false, cond, not, ◌&&◌, eqb, ltb, leb, List, [], ◌∷◌, ◌++◌, map, length, get_or, take, drop, ℤ, Some, None, Option, sym, refl, ap, ◌∙◌, subst, arith}
+use Rattle.std.proofs.Common.{◌≡◌, ℕ, zero, suc, ◌+◌, ◌-◌, ◌*◌, ◌/◌, ◌%◌, ◌<◌, ◌≤◌, min, max, Bool, true, false, cond, not, ◌&&◌, eqb, ltb, leb, List, [], ◌∷◌, ◌++◌, map, length, take, drop, Some, None, Option, sym, refl, ap, ◌∙◌, subst, arith}
 use mathlib.Core.Logic.{∥∥₁_elim}
-use Rattle.std.proofs.lemmas.List.{take-append-drop, length-append, length-drop, drop_at}
+use Rattle.std.proofs.lemmas.List.{take-append-drop, length-drop}
 use Rattle.std.proofs.lemmas.Bool.{and_parts, and_from, cond-false, eq-eqb, eqb-true, le-leb, le-ltb, leb-true, ltb-false, ltb-true, ne_eqb, not-false, not_from_true}
-use Rattle.std.proofs.lemmas.Bool.Decides.{nat_tests}
 use Rattle.std.specs.List.{flat_map}
 use Rattle.plan.specs.Boundaries.{Boundary, Lawful}
-use Rattle.sheet.proofs.Drawings.{length_rows, length_sheet}
+use Rattle.sheet.proofs.Drawings.{length_sheet}
 use Rattle.sheet.proofs.LawfulSheets.{sheet_lawful, sheet_some, sheet_most}
 use Rattle.sheet.proofs.Lawfulness.{Low}
 use Rattle.sheet.proofs.Loads.{first_low, loaded_lawful, loaded_sheet}
@@ -17,7 +16,6 @@ use Rattle.sheet.specs.Sheets.{lines_from, row_in, row_over, sheet}
 use Rattle.sheet.specs.Spans.{first, live, past, some_in, spread, whole}
 use Rattle.sheet.specs.Tables.{first_unlawful, loaded}
 use Rattle.sheet.specs.declared.faults.SheetFault.{SheetFault}
-use Rattle.sheet.specs.declared.rows.Row.{Row}
 use Rattle.sheet.specs.declared.rows.Span.{Span}
 
 -- a byte is read and written back

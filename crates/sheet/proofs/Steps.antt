@@ -1,10 +1,10 @@
 -- The steps of a walk. Assumes nothing.
-use Rattle.std.proofs.Common.{◌≡◌, ℕ, zero, suc, ◌+◌, ◌-◌, ◌<◌, ◌≤◌, min, max, Bool, true, false, cond, List, [], ◌∷◌, length, ℤ, Some, None, Option, sym, refl, ap, ◌∙◌, subst, arith}
+use Rattle.std.proofs.Common.{◌≡◌, ℕ, zero, suc, ◌+◌, ◌-◌, ◌<◌, ◌≤◌, Bool, true, false, cond, [], ◌∷◌, length, ℤ, Some, None, sym, refl, ap, ◌∙◌, subst, arith}
 use Rattle.std.proofs.lemmas.Bool.{ltb-true}
 use Rattle.plan.specs.Boundaries.{Boundary, Lawful, asked}
 use Rattle.sheet.proofs.Pairs.{asked_some, asked_none, pair_bounds}
 use Rattle.sheet.specs.Lefts.{left_at, left, Stepped}
-use Rattle.sheet.specs.Sheets.{Line, lines_from, lines, row_over}
+use Rattle.sheet.specs.Sheets.{lines_from, lines, row_over}
 use Rattle.sheet.specs.Spans.{past, whole, live, some_in, next_span, spread, first}
 use Rattle.sheet.specs.Walks.{Small}
 use Rattle.sheet.specs.declared.rows.Row.{Row}

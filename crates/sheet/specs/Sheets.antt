@@ -1,5 +1,5 @@
 -- The sheet of a plan: its rows and points. Assumes nothing.
-use Rattle.std.specs.Prelude.{ℕ, zero, suc, ◌+◌, ◌-◌, min, max, cond, List, [], ◌∷◌, map, ℤ, Some, None, Option, nat_lt}
+use Rattle.std.specs.Prelude.{ℕ, zero, suc, ◌+◌, ◌-◌, min, max, cond, List, [], ◌∷◌, map, ℤ, Some, None, nat_lt}
 use Rattle.plan.specs.Boundaries.{Boundary}
 use Rattle.sheet.specs.Spans.{past, whole, live, some_in, width, first, spread}
 use Rattle.sheet.specs.declared.rows.Span.{Span}

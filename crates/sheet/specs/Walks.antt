@@ -1,5 +1,5 @@
 -- The bounds of a walk. Assumes nothing.
-use Rattle.std.specs.Prelude.{◌≡◌, ℕ, ◌+◌, ◌<◌, ◌≤◌, Some, None, Option}
+use Rattle.std.specs.Prelude.{◌≡◌, ◌+◌, ◌<◌, ◌≤◌, Some, Option}
 use Rattle.plan.specs.Limits.{max_acceptance, max_rejection, max_count}
 use Rattle.sheet.specs.declared.rows.Span.{Span}
 

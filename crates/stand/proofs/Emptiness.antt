@@ -1,7 +1,6 @@
 -- Bays that are written and read. Assumes nothing.
-use Rattle.std.proofs.Common.{◌≡◌, ℕ, zero, suc, List, [], ◌∷◌, get_or, replicate, Some, None, Option, sym, refl, ap, ◌∙◌, subst, arith}
+use Rattle.std.proofs.Common.{◌≡◌, ℕ, zero, suc, replicate, Some, None, Option, sym, refl, ◌∙◌, arith}
 use Rattle.stand.specs.Bays.{held, Small}
-use Rattle.stand.specs.declared.records.Record.{Record}
 
 -- every bay of a new stand is empty
 pub held_none : (n b : ℕ) → held (replicate n None) b ≡ None

@@ -1,18 +1,18 @@
 -- One more call keeps the law over histories. Assumes nothing.
-use Rattle.std.proofs.Common.{◌≡◌, ℕ, zero, suc, ◌+◌, ◌<◌, ◌≤◌, Bool, true, false, cond, not, ◌||◌, eqb, ltb, leb, ◌⊎◌, List, [], ◌∷◌, ◌++◌, map, length, get_or, take, set, is_some, is_ok, Some, None, Ok, Err, Option, Result, sym, refl, ap, ◌∙◌, subst, inl, inr, ⊎_elim, append_assoc, append-nil, arith}
+use Rattle.std.proofs.Common.{◌≡◌, ℕ, ◌+◌, ◌<◌, ◌≤◌, Bool, true, false, cond, not, ◌||◌, eqb, ltb, leb, List, [], ◌∷◌, ◌++◌, map, length, get_or, take, set, is_some, is_ok, Some, None, Ok, Err, Option, Result, sym, refl, ap, ◌∙◌, subst, ⊎_elim, append_assoc, append-nil, arith}
 use Rattle.std.proofs.ByRecursion.{All-push}
-use Rattle.std.proofs.lemmas.List.{length_push, set_past, set-get_or, get_or_past, get_or-map, get_or-set_same, get_or-set_other, map-set, take_more_set}
+use Rattle.std.proofs.lemmas.List.{length_push, set_past, set-get_or, get_or-map, get_or-set_same, get_or-set_other, map-set, take_more_set}
 use Rattle.std.proofs.lemmas.Bool.{cond-true, cond-false, cases_eq, cases_lt, lt-ltb, ne_eqb, eq-eqb, lt-leb, true≢false, both_ways}
 use Rattle.std.specs.List.{AllByRecursion as All}
 use Rattle.plan.specs.Boundaries.{Boundary, Lawful}
 use Rattle.plan.specs.Refusals.{refuse}
-use Rattle.plan.specs.Rulings.{Judges, Ends, ruling_at, total}
+use Rattle.plan.specs.Rulings.{Judges, ruling_at, total}
 use Rattle.plan.specs.declared.refusals.Layer.TheVariants.{Bay, Number}
 use Rattle.plan.specs.declared.refusals.Refusal.{Refusal}
 use Rattle.plan.specs.declared.verdicts.Verdict.{Verdict}
 use Rattle.plan.proofs.Judging.{judged_more, unfinished, total_push}
 use Rattle.stand.specs.Bays.{held}
-use Rattle.stand.specs.Calls.{bay_of, tests, first_fitting, has_verdict, decided_by, satisfies, granted, left, reply_by, answer, after, one_more, fresh, told, Served}
+use Rattle.stand.specs.Calls.{bay_of, tests, first_fitting, has_verdict, decided_by, satisfies, granted, left, reply_by, answer, after, told, Served}
 use Rattle.stand.specs.Histories.{Step, Opens, Clears, taken_by, taken, Occupied, Holds, Replied, Lived, call_of, step_of, steps}
 use Rattle.stand.specs.Refusals.{refused_call}
 use Rattle.stand.specs.declared.records.Call.{Call}

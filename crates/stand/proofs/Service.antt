@@ -1,5 +1,5 @@
 -- How a call is served, from the first test that fits. Assumes nothing.
-use Rattle.std.proofs.Common.{◌≡◌, ℕ, zero, suc, ◌+◌, ◌*◌, ◌<◌, ◌≤◌, Bool, true, false, cond, not, ltb, leb, List, [], ◌∷◌, length, get_or, set, is_some, is_ok, Some, None, Ok, Err, Option, Result, sym, refl, ap, ◌∙◌, subst, ⊎_elim, arith}
+use Rattle.std.proofs.Common.{◌≡◌, ℕ, ◌+◌, ◌*◌, ◌<◌, ◌≤◌, true, false, cond, not, ltb, leb, List, length, get_or, set, is_some, Some, None, Ok, Err, Option, sym, refl, ap, ◌∙◌, ⊎_elim, arith}
 use Rattle.std.proofs.lemmas.List.{set-get_or, set_past, get_or-set_same, get_or-set_other}
 use Rattle.std.proofs.lemmas.Bool.{cond-true, cond-false, cases_eq, cases_lt, lt-ltb, le-ltb, leb-false, or_parts}
 use Rattle.plan.specs.Boundaries.{Boundary}
@@ -8,11 +8,10 @@ use Rattle.plan.specs.Refusals.{refuse}
 use Rattle.plan.specs.declared.refusals.Layer.TheVariants.{Bay, Number}
 use Rattle.plan.specs.declared.refusals.Refusal.{Refusal}
 use Rattle.stand.specs.Bays.{held, Small}
-use Rattle.stand.specs.Calls.{bay_of, tests, first_fitting, decided_by, granted, left, reply_by, answer, after, Served, satisfies, lot}
+use Rattle.stand.specs.Calls.{bay_of, tests, first_fitting, decided_by, granted, left, reply_by, Served, satisfies, lot}
 use Rattle.stand.specs.declared.records.Call.{Call}
 use Rattle.stand.specs.declared.records.Call.TheVariants.{Open, Take, Read, Clear}
 use Rattle.stand.specs.declared.records.Record.{Record}
-use Rattle.stand.specs.declared.records.Reply.{Reply}
 use Rattle.stand.specs.declared.records.Reply.TheVariants.{Lot}
 
 -- the refusal of a call, if there is one

@@ -1,19 +1,16 @@
 -- What a call of a stand replies, and what it leaves in the bay that it names. Assumes nothing.
-use Rattle.std.specs.Prelude.{◌≡◌, ℕ, ◌+◌, Bool, true, false, cond, not, ◌||◌, List, [], ◌∷◌, is_some, is_ok, Some, None, Ok, Err, Option, Result, nat_le, nat_lt, slice_set}
+use Rattle.std.specs.Prelude.{◌≡◌, ℕ, ◌+◌, Bool, false, cond, not, ◌||◌, List, [], ◌∷◌, is_some, is_ok, Some, None, Ok, Err, Option, Result, nat_le, nat_lt, slice_set}
 use Rattle.plan.specs.Boundaries.{Boundary}
 use Rattle.plan.specs.Refusals.{refuse}
 use Rattle.plan.specs.Rulings.{ruling_at}
 use Rattle.plan.specs.declared.refusals.Layer.TheVariants.{Bay, Number}
 use Rattle.plan.specs.declared.refusals.Refusal.{Refusal}
 use Rattle.stand.specs.Bays.{held}
-use Rattle.stand.specs.Refusals.{refused_bay, refused_call}
-use Rattle.stand.specs.declared.records.BayFault.{BayFault}
 use Rattle.stand.specs.declared.records.Call.{Call}
 use Rattle.stand.specs.declared.records.Call.TheVariants.{Open, Take, Read, Clear}
 use Rattle.stand.specs.declared.records.Record.{Record}
 use Rattle.stand.specs.declared.records.Reply.{Reply}
 use Rattle.stand.specs.declared.records.Reply.TheVariants.{Opened, Lot}
-use Rattle.stand.specs.declared.records.StandFault.{StandFault}
 
 -- the greatest bay
 abbrev pub last_bay : ℕ

@@ -1,5 +1,5 @@
 -- The law over histories: what the calls of a working life do to the bays, and what they are answered. Assumes nothing.
-use Rattle.std.specs.Prelude.{◌≡◌, ℕ, Bool, true, false, cond, List, [], ◌∷◌, ◌++◌, length, is_ok, Some, None, Option, Result, ◌==◌}
+use Rattle.std.specs.Prelude.{◌≡◌, ℕ, Bool, true, cond, List, [], ◌∷◌, ◌++◌, length, is_ok, Some, None, Option, Result, ◌==◌}
 use Rattle.std.specs.List.{AllByRecursion as All}
 use Rattle.plan.specs.Boundaries.{Boundary}
 use Rattle.plan.specs.Rulings.{Judges, total}

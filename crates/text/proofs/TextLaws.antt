@@ -1,8 +1,7 @@
 -- Adding to a text, and the digits of a number. Assumes nothing.
-use Rattle.std.proofs.Common.{◌≡◌, ℕ, zero, suc, ◌+◌, ◌-◌, ◌*◌, ◌/◌, ◌%◌, ◌^◌, ◌<◌, ◌≤◌, List, [], ◌∷◌, ◌++◌, length, take, drop, set, decimal, sym, refl, ap, ◌∙◌, ⊎_elim, append_assoc, pow-suc, add-one, arith, lit<}
-use native.Mathlib.Nat.{pow-zero, pow-le-pow_right}
-use Rattle.std.proofs.lemmas.Fmt.{decimal_step, decimal_digit, length-decimal-le}
-use Rattle.std.proofs.lemmas.List.{take_all, take-take, take-append-le, length-take-le, length-append, length-take, length-drop, drop-set, append-nil, take_more_set}
+use Rattle.std.proofs.Common.{◌≡◌, ℕ, ◌+◌, ◌^◌, ◌<◌, ◌≤◌, List, [], ◌∷◌, ◌++◌, length, take, set, decimal, sym, ap, ◌∙◌, ⊎_elim, append_assoc, arith}
+use Rattle.std.proofs.lemmas.Fmt.{length-decimal-le}
+use Rattle.std.proofs.lemmas.List.{take_all, take-take, take-append-le, length-take-le, length-append, length-take, append-nil, take_more_set}
 use Rattle.std.proofs.lemmas.Bool.{cases_lt}
 use Rattle.text.specs.Texts.{written, added}
 use Rattle.text.specs.declared.texts.Text.{Text}

@@ -1,5 +1,5 @@
 -- Bytes written over a buffer, one part after another. Assumes nothing.
-use Rattle.std.proofs.Common.{◌≡◌, ℕ, ◌+◌, ◌<◌, ◌≤◌, List, [], ◌∷◌, ◌++◌, length, take, drop, set, sym, refl, ap, ◌∙◌, append_assoc, add_assoc, zero-add, add-one, arith}
+use Rattle.std.proofs.Common.{◌≡◌, ℕ, ◌+◌, ◌<◌, ◌≤◌, List, [], ◌∷◌, ◌++◌, length, take, drop, set, sym, ap, ◌∙◌, append_assoc, add_assoc, zero-add, add-one, arith}
 use Rattle.std.proofs.lemmas.List.{length-append, length-drop, length-take-le, set_split, take_at, drop_at, drop-drop}
 use Rattle.text.specs.Writes.{over, put_at}
 

@@ -1,5 +1,5 @@
 -- What is written in a text, and what it becomes. Assumes nothing.
-use Rattle.std.specs.Prelude.{ℕ, Bool, cond, leb, List, ◌++◌, length, take, drop, Some, None, Option}
+use Rattle.std.specs.Prelude.{ℕ, List, ◌++◌, take}
 use Rattle.text.specs.declared.texts.Text.{Text}
 
 -- the first len bytes

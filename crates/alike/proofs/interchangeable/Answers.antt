@@ -1,4 +1,4 @@
-use Rattle.std.proofs.Common.{◌≡◌, Bool, sym, ap, ◌∙◌}
+use Rattle.std.proofs.Common.{Bool, sym, ap, ◌∙◌}
 use Rattle.sheet.specs.Bytes.{bytes_of}
 use Rattle.sheet.specs.Comparing.{Tells}
 use Rattle.sheet.specs.Loads.{rows_in}

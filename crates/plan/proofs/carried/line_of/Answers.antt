@@ -1,4 +1,4 @@
-use Rattle.std.proofs.Common.{Some, None, sym, refl, ◌∙◌, subst, arith}
+use Rattle.std.proofs.Common.{Some, None, sym, refl, ◌∙◌, subst}
 use Rattle.plan.specs.Carried.{Holds}
 use Rattle.plan.proofs.Rows.{here, on, past}
 use Rattle.plan.proofs.carried.line_of.Goals as goal

@@ -1,4 +1,4 @@
-use Rattle.std.proofs.Common.{◌≡◌, map, length}
+use Rattle.std.proofs.Common.{map, length}
 use Rattle.sheet.specs.Lefts.{left}
 use Rattle.sheet.specs.Sheets.{row_in, sheet}
 use Rattle.sheet.proofs.Compared.{Follows}

@@ -1,4 +1,4 @@
-use Rattle.std.proofs.Common.{◌≡◌, List, sym, refl, ap, ◌∙◌, subst}
+use Rattle.std.proofs.Common.{◌≡◌, List, sym, ap, ◌∙◌, subst}
 use Rattle.text.specs.Writes.{put_at}
 use Rattle.sheet.specs.Sheets.{Line}
 use Rattle.sheet.proofs.Drawings.{Drawing, begun, row_fits, row_drawn, row_is, rows_drawn}

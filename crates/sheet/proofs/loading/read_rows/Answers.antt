@@ -1,4 +1,4 @@
-use Rattle.std.proofs.Common.{◌≡◌, ◌-◌, ◌≤◌, [], ◌∷◌, ◌++◌, length, take, drop, refl, ap, ◌∙◌, rules}
+use Rattle.std.proofs.Common.{◌-◌, ◌≤◌, [], ◌∷◌, ◌++◌, length, take, drop, refl, ap, ◌∙◌, rules}
 use Rattle.std.proofs.lemmas.Slice.{pushed}
 use Rattle.sheet.specs.Loads.{rows_of}
 use Rattle.sheet.proofs.Reading.{read_more}

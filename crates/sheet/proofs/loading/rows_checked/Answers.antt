@@ -1,4 +1,4 @@
-use Rattle.std.proofs.Common.{◌≡◌, drop, Some, None, sym, refl, ap, ◌∙◌, rules}
+use Rattle.std.proofs.Common.{◌≡◌, drop, None, sym, ap, ◌∙◌, rules}
 use Rattle.std.proofs.lemmas.List.{take_rest}
 use Rattle.sheet.specs.Loads.{first_fault, header_tests, or_else, row_fault, rows_of}
 use Rattle.sheet.specs.Spans.{first}

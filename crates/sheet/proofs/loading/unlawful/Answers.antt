@@ -1,5 +1,5 @@
-use Rattle.std.proofs.Common.{◌≡◌, ◌+◌, ◌-◌, ◌≤◌, length, take, drop, sym, refl, ap, ◌∙◌, arith, rules}
-use Rattle.sheet.specs.Tables.{first_unlawful, live_of}
+use Rattle.std.proofs.Common.{◌+◌, ◌-◌, ◌≤◌, length, take, drop, sym, ap, ◌∙◌, arith, rules}
+use Rattle.sheet.specs.Tables.{first_unlawful}
 use Rattle.sheet.specs.Spans.{span}
 use Rattle.sheet.specs.Loads.{rows_of}
 use Rattle.sheet.proofs.Reading.{rest_length, found, passed, stays_few}

@@ -1,4 +1,4 @@
-use Rattle.std.proofs.Common.{◌≡◌, ◌≤◌, map, length, take}
+use Rattle.std.proofs.Common.{◌≡◌, map, length, take}
 use Rattle.stand.specs.Histories.{Lived, call_of, steps}
 use Rattle.stand.proofs.histories.run.Given as goal
 

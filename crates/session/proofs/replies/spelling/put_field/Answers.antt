@@ -1,4 +1,4 @@
-use Rattle.std.proofs.Common.{◌≡◌, ◌+◌, ◌^◌, ◌<◌, ◌≤◌, [], ◌∷◌, ◌++◌, length, decimal, sym, refl, ap, ◌∙◌, subst, arith, rules}
+use Rattle.std.proofs.Common.{◌+◌, ◌^◌, ◌<◌, ◌≤◌, [], ◌∷◌, length, decimal, sym, ap, ◌∙◌, subst, arith, rules}
 use Rattle.text.proofs.TextLaws.{length_decimal_u32}
 use Rattle.text.specs.Writes.{put_at}
 use Rattle.session.specs.Replies.{field_text}

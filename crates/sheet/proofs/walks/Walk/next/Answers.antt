@@ -1,4 +1,4 @@
-use Rattle.std.proofs.Common.{sym, refl, ap, ◌∙◌, subst, arith}
+use Rattle.std.proofs.Common.{sym, refl, ◌∙◌, subst, arith}
 use Rattle.sheet.specs.Walks.{Small}
 use Rattle.sheet.proofs.Steps.{stops, bounded, goes_on, small_next}
 use Rattle.sheet.proofs.walks.Walk.next.Goals as goal
