@@ -3,7 +3,7 @@ use Rattle.std.proofs.Common.{◌≡◌, ℕ, ◌≤◌, Bool, true, false, cond
 use Rattle.std.proofs.ByRecursion.{All-append}
 use Rattle.std.proofs.lemmas.List.{length-append, length-set, map_push}
 use Rattle.std.proofs.lemmas.Bool.{ltb-false, true≢false, false≢true}
-use Rattle.std.specs.List.{AllByRecursion as All}
+use Rattle.std.specs.List.{AllByRecursion}
 use Rattle.plan.specs.Boundaries.{Boundary}
 use Rattle.plan.specs.Rulings.{Judges, total}
 use Rattle.plan.specs.declared.refusals.Refusal.{Refusal}
@@ -59,7 +59,7 @@ back b h s xs occ =
     ⊎_elim
     (λ here. inl (subst (Opens b) here.1 occ.opens, sym occ.items ∙ ap (taken b) here.2))
     (λ before.
-    let all = all_before (λ x. Clears b x → ⊥) before.0 s (subst (All (λ x. Clears b x → ⊥)) before.1 occ.uncleared) in
+    let all = all_before (λ x. Clears b x → ⊥) before.0 s (subst (AllByRecursion (λ x. Clears b x → ⊥)) before.1 occ.uncleared) in
     let was : Occupied b h (taken b before.0) = record { earlier = occ.earlier; opening = occ.opening; since = before.0; split = before.2; opens = occ.opens; uncleared = all.0; items = refl } in
     inr (taken b before.0, was, sym (taken_push b before.0 s) ∙ ap (taken b) (sym before.1) ∙ occ.items))
     (split_push h occ.earlier s occ.opening occ.since occ.split)
@@ -123,11 +123,11 @@ module _ (m : ℕ) (p : Boundary) where
       one_record e f g = cc
 
   -- no item gave more than the kind allows
-  taken_few : (b : ℕ) (c : Call) (o : Option Record) → All (λ x. x ≤ m) (taken_by b c (is_ok (answer m has_verdict p c o)))
+  taken_few : (b : ℕ) (c : Call) (o : Option Record) → AllByRecursion (λ x. x ≤ m) (taken_by b c (is_ok (answer m has_verdict p c o)))
   taken_few b (Open a) o = tt
   taken_few b (Take a n) o = by_ok (is_ok (answer m has_verdict p (Take a n) o)) refl (eqb a b)
     where
-      by_ok : (ok : Bool) → is_ok (answer m has_verdict p (Take a n) o) ≡ ok → (same : Bool) → All (λ x. x ≤ m) (cond ok (cond same (n ∷ []) []) [])
+      by_ok : (ok : Bool) → is_ok (answer m has_verdict p (Take a n) o) ≡ ok → (same : Bool) → AllByRecursion (λ x. x ≤ m) (cond ok (cond same (n ∷ []) []) [])
       by_ok true e true = (ltb-false m n (not_first (ltb m n) _ _ (not_first (ltb 31 a) _ _ (unrefused _ _ e)).1).0, tt)
       by_ok true e false = tt
       by_ok false e same = tt
@@ -135,7 +135,7 @@ module _ (m : ℕ) (p : Boundary) where
   taken_few b (Clear a) o = tt
 
   abbrev Few : List Step → Type 0
-  Few h = (b : ℕ) (xs : List ℕ) → Occupied b h xs → All (λ x. x ≤ m) xs
+  Few h = (b : ℕ) (xs : List ℕ) → Occupied b h xs → AllByRecursion (λ x. x ≤ m) xs
 
   pub few : (h : List Step) → Life m p h → Few h
   few = throughout m p Few (λ b xs x. absurd (nothing b xs x)) more
@@ -143,8 +143,8 @@ module _ (m : ℕ) (p : Boundary) where
       more : (h : List Step) (s : Step) → Few h → Replied m p h s → Few (h ++ (s ∷ []))
       more h s small replied b xs x =
           ⊎_elim
-          (λ new. subst (All (λ x. x ≤ m)) (sym new.1) tt)
+          (λ new. subst (AllByRecursion (λ x. x ≤ m)) (sym new.1) tt)
           (λ old.
-          let last : All (λ x. x ≤ m) (taken_by b s.0 (is_ok s.1)) = subst (λ r. All (λ x. x ≤ m) (taken_by b s.0 (is_ok r))) (sym replied.2) (taken_few b s.0 replied.0) in
-          subst (All (λ x. x ≤ m)) old.2 (All-append (λ x. x ≤ m) old.0 _ (small b old.0 old.1) last))
+          let last : AllByRecursion (λ x. x ≤ m) (taken_by b s.0 (is_ok s.1)) = subst (λ r. AllByRecursion (λ x. x ≤ m) (taken_by b s.0 (is_ok r))) (sym replied.2) (taken_few b s.0 replied.0) in
+          subst (AllByRecursion (λ x. x ≤ m)) old.2 (All-append (λ x. x ≤ m) old.0 _ (small b old.0 old.1) last))
           (back b h s xs x)

@@ -2,7 +2,7 @@
 use Rattle.std.proofs.Common.{◌≡◌, ℕ, ◌+◌, ◌≤◌, ltb, List, [], ◌∷◌, ◌++◌, map, length, Some, None, Ok, Option, Result, sym, refl, ap, ◌∙◌, subst, append_assoc, arith}
 use Rattle.std.proofs.ByRecursion.{All-push}
 use Rattle.std.proofs.lemmas.Bool.{ltb-false}
-use Rattle.std.specs.List.{AllByRecursion as All}
+use Rattle.std.specs.List.{AllByRecursion}
 use Rattle.plan.specs.Boundaries.{Boundary}
 use Rattle.plan.specs.Rulings.{Judges, ruling_at}
 use Rattle.plan.specs.declared.refusals.Refusal.{Refusal}
@@ -23,7 +23,7 @@ use Rattle.alike.proofs.Growth.{front, holds_one, few}
 
 module _ (m : ℕ) (p q : Boundary) (ends : EndAlike m p q) where
   -- the plans judge series alike
-  judges_across : (xs : List ℕ) → All (λ x. x ≤ m) xs → (v : Option Verdict) → Judges p xs v → Judges q xs v
+  judges_across : (xs : List ℕ) → AllByRecursion (λ x. x ≤ m) xs → (v : Option Verdict) → Judges p xs v → Judges q xs v
   judges_across xs small None j = λ n v e. j n v ((ends xs small n v).1 e)
   judges_across xs small (Some v) j = (j.0, (ends xs small j.0 v).0 j.1)
 

@@ -3,7 +3,7 @@ use Rattle.std.proofs.Common.{◌≡◌, ℕ, zero, suc, ◌<◌, ◌≤◌, fal
 use Rattle.std.proofs.ByRecursion.{All-get_or}
 use Rattle.std.proofs.lemmas.List.{length-take-le, take-take, take_more}
 use Rattle.std.proofs.lemmas.Bool.{le-ltb, cases_lt, cond-false}
-use Rattle.std.specs.List.{AllByRecursion as All}
+use Rattle.std.specs.List.{AllByRecursion}
 use Rattle.plan.specs.Boundaries.{Boundary}
 use Rattle.plan.specs.Rulings.{Judges, Ends, total}
 use Rattle.plan.specs.declared.verdicts.Verdict.{Verdict}
@@ -20,7 +20,7 @@ use Rattle.alike.proofs.Endings.{ends_on, undecided}
 use Rattle.alike.proofs.Growth.{grow, lives, told_once}
 
 -- a lot in bay 0 to which items of a series were taken, up to the end of the series
-module _ (m : ℕ) (p : Boundary) (xs : List ℕ) (small : All (λ x. x ≤ m) xs) (n : ℕ) (v : Verdict) (ends : Ends p xs n v) where
+module _ (m : ℕ) (p : Boundary) (xs : List ℕ) (small : AllByRecursion (λ x. x ≤ m) xs) (n : ℕ) (v : Verdict) (ends : Ends p xs n v) where
   fed : (k : ℕ) → k ≤ n → (h : List Step) × Life m p h × Occupied 0 h (take k xs)
   fed zero within =
       let s : Step = (Open 0, Ok (Opened 0)) in
@@ -65,7 +65,7 @@ module _ (m : ℕ) (p q : Boundary) (alike : ReplyAlike m p q) where
           subst (Judges q ys) verdict (subst (λ l. Judges q l t.verdict) (told_once m p h life 0 hold.0 ys hold.1 occ) hold.4)
 
   -- so the plans end a series at the same size: q judges its items up to there as p does, and gives no verdict sooner
-  ends_across : (xs : List ℕ) → All (λ x. x ≤ m) xs → (n : ℕ) (v : Verdict) → Ends p xs n v → Ends q xs n v
+  ends_across : (xs : List ℕ) → AllByRecursion (λ x. x ≤ m) xs → (n : ℕ) (v : Verdict) → Ends p xs n v → Ends q xs n v
   ends_across xs small n v e =
       let end = across n (omega arith) (Some v) (n, ends_on p xs (take n xs) n v (sym (take-take n n xs (omega arith))) (omega (arith, long n (omega arith))) e) in
       let k = end.0 in

@@ -1,6 +1,6 @@
 -- Input that comes in pieces: the lines in it, and the replies to all of them. Assumes nothing.
 use Rattle.std.specs.Prelude.{◌≡◌, ℕ, ◌+◌, ◌<◌, ◌≤◌, cond, List, [], ◌∷◌, ◌++◌, length, take, Ok, Result, ◌==◌, ◌≢◌}
-use Rattle.std.specs.List.{AllByRecursion as All}
+use Rattle.std.specs.List.{AllByRecursion}
 use Rattle.plan.specs.declared.refusals.Refusal.{Refusal}
 use Rattle.text.specs.Texts.{written}
 use Rattle.text.specs.Writes.{over}
@@ -73,11 +73,11 @@ closed [] = []
 closed (l ∷ ls) = l ++ (10 ∷ closed ls)
 
 abbrev pub NoFeed : List ℕ → Type 0
-NoFeed bs = All (λ b. b ≢ 10) bs
+NoFeed bs = AllByRecursion (λ b. b ≢ 10) bs
 
 pub record Parted (input : List ℕ) (ls : List (List ℕ)) (rest : List ℕ) : Type 0 where
   pub joined : closed ls ++ rest ≡ input
-  pub lines : All NoFeed ls
+  pub lines : AllByRecursion NoFeed ls
   pub last : NoFeed rest
 
 abbrev pub LinesPart : Type 0

@@ -3,7 +3,7 @@ use Rattle.std.proofs.Common.{◌≡◌, ℕ, zero, suc, ◌+◌, ◌<◌, ◌�
 use Rattle.std.proofs.ByRecursion.{All-get_or}
 use Rattle.std.proofs.lemmas.List.{take_all, take-take}
 use Rattle.std.proofs.lemmas.Bool.{cases_lt, cond-true, ltb-true, both_ways}
-use Rattle.std.specs.List.{AllByRecursion as All}
+use Rattle.std.specs.List.{AllByRecursion}
 use Rattle.plan.proofs.Judging.{rules_ruled, rules_one}
 use Rattle.plan.specs.Boundaries.{Boundary, Lawful}
 use Rattle.plan.specs.Rulings.{Rules, Ends, ruled, total}
@@ -17,7 +17,7 @@ use Rattle.sheet.specs.Spans.{In, past, whole, live, some_in, spread, first}
 use Rattle.sheet.specs.declared.rows.Span.{Span}
 
 -- Plans with one sheet rule alike on a series.
-module _ (m : ℕ) (p q : Boundary) (xs : List ℕ) (small : All (λ x. x ≤ m) xs) where
+module _ (m : ℕ) (p q : Boundary) (xs : List ℕ) (small : AllByRecursion (λ x. x ≤ m) xs) where
   follow :
       (k j n : ℕ) (s : Span) → k + n ≡ p.last + 1 → j + n ≡ q.last + 1 → In s (total (take n xs))
       → map row_in (lines_from m p k n s) ≡ map row_in (lines_from m q j n s)

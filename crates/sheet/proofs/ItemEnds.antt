@@ -4,7 +4,7 @@ use mathlib.Core.Logic.{∥∥₁_elim, ∥∥₁_map₂}
 use native.Mathlib.Nat.{ℕ_set}
 use Rattle.std.proofs.ByRecursion.{All-append}
 use Rattle.std.proofs.lemmas.List.{length-append, length-map, length-replicate, take_at}
-use Rattle.std.specs.List.{AllByRecursion as All}
+use Rattle.std.specs.List.{AllByRecursion}
 use Rattle.plan.specs.Boundaries.{Boundary, Lawful}
 use Rattle.plan.specs.Items.{Kind}
 use Rattle.plan.specs.Limits.{max_size}
@@ -35,17 +35,17 @@ back (Some Reject) = refl
 same_from_code : (v w : Option Verdict) → code v ≡ code w → v ≡ w
 same_from_code v w e = sym (back v) ∙ ap decode e ∙ back w
 
-few_zeros : (m n : ℕ) → All (λ x. x ≤ m) (replicate n 0)
+few_zeros : (m n : ℕ) → AllByRecursion (λ x. x ≤ m) (replicate n 0)
 few_zeros m zero = tt
 few_zeros m (suc n) = (omega arith, few_zeros m n)
 
 module _ {X : Type 0} (m : ℕ) (score : X → ℕ) (kind : Kind m score) where
-  pub scores_small : (xs : List X) → All (λ x. x ≤ m) (map score xs)
+  pub scores_small : (xs : List X) → AllByRecursion (λ x. x ≤ m) (map score xs)
   scores_small [] = tt
   scores_small (x ∷ xs) = (kind.bounded x, scores_small xs)
 
   -- some items give any counts up to m
-  pub lifted : (xs : List ℕ) → All (λ x. x ≤ m) xs → ∥ ((ys : List X) × (map score ys ≡ xs)) ∥₁
+  pub lifted : (xs : List ℕ) → AllByRecursion (λ x. x ≤ m) xs → ∥ ((ys : List X) × (map score ys ≡ xs)) ∥₁
   lifted [] small = ∣ ([], refl) ∣₁
   lifted (x ∷ xs) small = ∥∥₁_map₂ (kind.onto x small.0) (lifted xs small.1) (λ a b. (a.0 ∷ b.0, both a.1 b.1))
     where

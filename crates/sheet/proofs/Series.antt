@@ -3,7 +3,7 @@ use Rattle.std.proofs.Common.{◌≡◌, ℕ, ◌+◌, ◌-◌, ◌<◌, ◌≤�
 use Rattle.std.proofs.ByRecursion.{All-get_or, All-push, All-take}
 use Rattle.std.proofs.lemmas.List.{length_push, length-take-le, take_all, take-append-le, take_more, take-take}
 use Rattle.std.proofs.lemmas.Bool.{cases_lt}
-use Rattle.std.specs.List.{AllByRecursion as All}
+use Rattle.std.specs.List.{AllByRecursion}
 use Rattle.plan.proofs.Judging.{total_push}
 use Rattle.plan.specs.Rulings.{total}
 use Rattle.sheet.specs.Spans.{In, first, spread}
@@ -23,7 +23,7 @@ module _ (m : ℕ) (L : ℕ → ℕ → Type 0) where
 
   pub record Comes (n d : ℕ) : Type 0 where
     pub counts : List ℕ
-    pub small : All (λ x. x ≤ m) counts
+    pub small : AllByRecursion (λ x. x ≤ m) counts
     pub size : length counts ≡ n
     pub sum : total counts ≡ d
     pub lived : Lived counts n

@@ -1,6 +1,6 @@
 -- What a sheet says of series of items, and plans that end every series alike. Assumes nothing.
 use Rattle.std.specs.Prelude.{◌≡◌, ℕ, ◌+◌, ◌<◌, ◌≤◌, List, map, length, take, Some, None, Option, slice_index_or}
-use Rattle.std.specs.List.{AllByRecursion as All}
+use Rattle.std.specs.List.{AllByRecursion}
 use Rattle.plan.specs.Boundaries.{Boundary}
 use Rattle.plan.specs.Limits.{max_size}
 use Rattle.plan.specs.Rulings.{Rules, Ends, total}
@@ -49,4 +49,4 @@ module _ {X : Type 0} (score : X → ℕ) where
 
 -- Two plans end every series of counts up to m alike, however long it is.
 abbrev pub EndAlike : ℕ → Boundary → Boundary → Type 0
-EndAlike m p q = (xs : List ℕ) → All (λ x. x ≤ m) xs → (n : ℕ) (v : Verdict) → (Ends p xs n v → Ends q xs n v) × (Ends q xs n v → Ends p xs n v)
+EndAlike m p q = (xs : List ℕ) → AllByRecursion (λ x. x ≤ m) xs → (n : ℕ) (v : Verdict) → (Ends p xs n v → Ends q xs n v) × (Ends q xs n v → Ends p xs n v)

@@ -3,7 +3,7 @@ use Rattle.std.proofs.Common.{◌≡◌, ℕ, ◌+◌, ◌<◌, ◌≤◌, Bool,
 use Rattle.std.proofs.ByRecursion.{All-push}
 use Rattle.std.proofs.lemmas.List.{length_push, set_past, set-get_or, get_or-map, get_or-set_same, get_or-set_other, map-set, take_more_set}
 use Rattle.std.proofs.lemmas.Bool.{cond-true, cond-false, cases_eq, cases_lt, lt-ltb, ne_eqb, eq-eqb, lt-leb, true≢false, both_ways}
-use Rattle.std.specs.List.{AllByRecursion as All}
+use Rattle.std.specs.List.{AllByRecursion}
 use Rattle.plan.specs.Boundaries.{Boundary, Lawful}
 use Rattle.plan.specs.Refusals.{refuse}
 use Rattle.plan.specs.Rulings.{Judges, ruling_at, total}
@@ -73,7 +73,7 @@ module _ (b : ℕ) (h : List Step) (s : Step) where
       ⊎_elim
       (λ here. absurd (shut (subst (Opens b) here.1 occ.opens)))
       (λ front.
-      let all = all_before (λ x. Clears b x → ⊥) front.0 s (subst (All (λ x. Clears b x → ⊥)) front.1 occ.uncleared) in
+      let all = all_before (λ x. Clears b x → ⊥) front.0 s (subst (AllByRecursion (λ x. Clears b x → ⊥)) front.1 occ.uncleared) in
       let back : Occupied b h (taken b front.0) = record { earlier = occ.earlier; opening = occ.opening; since = front.0; split = front.2; opens = occ.opens; uncleared = all.0; items = refl } in
       ((taken b front.0, back, sym (taken_push b front.0 s) ∙ ap (taken b) (sym front.1) ∙ occ.items), all.1))
       (split_push h occ.earlier s occ.opening occ.since occ.split)

@@ -1,7 +1,7 @@
 -- A list with one more element at its end, and how it splits. Assumes nothing.
 use Rattle.std.proofs.Common.{◌≡◌, ◌⊎◌, List, [], ◌∷◌, ◌++◌, sym, refl, ap, ◌∙◌, inl, inr, ⊎_elim, append_assoc}
 use Rattle.std.proofs.lemmas.List.{same_from_push}
-use Rattle.std.specs.List.{AllByRecursion as All}
+use Rattle.std.specs.List.{AllByRecursion}
 
 module _ {A : Type 0} where
   -- a list is empty, or has a last element
@@ -28,6 +28,6 @@ module _ {A : Type 0} where
       inr (some.0, some.2 ∙ ap (λ y. some.0 ++ (y ∷ [])) (sym q.1), q.0))
       (last_of t)
 
-  pub all_before : (P : A → Type 0) (xs : List A) (x : A) → All P (xs ++ (x ∷ [])) → All P xs × P x
+  pub all_before : (P : A → Type 0) (xs : List A) (x : A) → AllByRecursion P (xs ++ (x ∷ [])) → AllByRecursion P xs × P x
   all_before P [] x a = (tt, a.0)
   all_before P (y ∷ xs) x a = let r = all_before P xs x a.1 in ((a.0, r.0), r.1)

@@ -1,6 +1,6 @@
 -- The law over histories: what the calls of a working life do to the bays, and what they are answered. Assumes nothing.
 use Rattle.std.specs.Prelude.{◌≡◌, ℕ, Bool, true, cond, List, [], ◌∷◌, ◌++◌, length, is_ok, Some, None, Option, Result, ◌==◌}
-use Rattle.std.specs.List.{AllByRecursion as All}
+use Rattle.std.specs.List.{AllByRecursion}
 use Rattle.plan.specs.Boundaries.{Boundary}
 use Rattle.plan.specs.Rulings.{Judges, total}
 use Rattle.plan.specs.declared.refusals.Refusal.{Refusal}
@@ -56,7 +56,7 @@ pub record Occupied (b : ℕ) (h : List Step) (xs : List ℕ) : Type 0 where
   pub since : List Step
   pub split : h ≡ earlier ++ (opening ∷ since)
   pub opens : Opens b opening
-  pub uncleared : All (λ s. Clears b s → ⊥) since
+  pub uncleared : AllByRecursion (λ s. Clears b s → ⊥) since
   pub items : taken b since ≡ xs
 
 -- What bay b holds after a history, under a plan: of an occupied bay the number of items taken, the sum of their

@@ -1,6 +1,6 @@
 -- The words of a line: the first of them, and what they are. Assumes nothing.
 use Rattle.std.proofs.Common.{◌≡◌, ℕ, ◌<◌, true, false, cond, eqb, List, [], ◌∷◌, length, Some, sym, refl, ap, ◌∙◌, inl, inr, arith, Bor}
-use Rattle.std.specs.List.{AllByRecursion as All}
+use Rattle.std.specs.List.{AllByRecursion}
 use Rattle.std.proofs.lemmas.Bool.{eqb-true, eqb-false, cases_Bool}
 use Rattle.text.specs.Cuts.{before, after}
 use Rattle.text.specs.Readers.{words_in, left}
@@ -15,7 +15,7 @@ words_cut (x ∷ xs) =
     elim (eqb x 32) as (λ t. cond t ([] ∷ words xs) (with_first x (words xs)) ≡ cond t [] (x ∷ before 32 xs) ∷ words_in (cond t (Some xs) (after 32 xs))) [ true ↦ refl | false ↦ ap (with_first x) (words_cut xs) ]
 
 abbrev NoSpace : List ℕ → Type 0
-NoSpace = All (λ b. b ≡ 32 → ⊥)
+NoSpace = AllByRecursion (λ b. b ≡ 32 → ⊥)
 
 spaced_on_word : (ws : List (List ℕ)) → 0 < length ws → spaced_on ws ≡ 32 ∷ spaced ws
 spaced_on_word [] l = absurd (omega arith)
@@ -25,7 +25,7 @@ spaced_first : (c : ℕ) (ws : List (List ℕ)) → spaced (with_first c ws) ≡
 spaced_first c [] = refl
 spaced_first c (w ∷ ws) = refl
 
-apart_first : (c : ℕ) (ws : List (List ℕ)) → (c ≡ 32 → ⊥) → All NoSpace ws → All NoSpace (with_first c ws)
+apart_first : (c : ℕ) (ws : List (List ℕ)) → (c ≡ 32 → ⊥) → AllByRecursion NoSpace ws → AllByRecursion NoSpace (with_first c ws)
 apart_first c [] n a = ((n, tt), tt)
 apart_first c (w ∷ ws) n a = ((n, a.0), a.1)
 

@@ -1,6 +1,6 @@
 -- The words of a line: what stands between its spaces. Assumes nothing.
 use Rattle.std.specs.Prelude.{◌≡◌, ℕ, ◌<◌, cond, List, [], ◌∷◌, ◌++◌, length, ◌==◌, ◌≢◌}
-use Rattle.std.specs.List.{AllByRecursion as All}
+use Rattle.std.specs.List.{AllByRecursion}
 
 -- c before the first of the words
 abbrev pub with_first : ℕ → List (List ℕ) → List (List ℕ)
@@ -25,4 +25,4 @@ spaced (w ∷ ws) = w ++ spaced_on ws
 pub record Parts (line : List ℕ) (ws : List (List ℕ)) : Type 0 where
   pub some : 0 < length ws
   pub joined : spaced ws ≡ line
-  pub apart : All (All (λ b. b ≢ 32)) ws
+  pub apart : AllByRecursion (AllByRecursion (λ b. b ≢ 32)) ws
