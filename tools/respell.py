@@ -48,14 +48,19 @@ asked-none asked_none
 asked-past asked_past
 asked-some asked_some
 at-end at_end
+at-start at_start
 base-lawful base_lawful
 base-meaning base_meaning
+bay-layer bay_layer
 bay-of bay_of
+bays-are bays_are
 between-spaces between_spaces
 by-bay by_bay
 by-fault by_fault
 by-numbers by_numbers
 by-ok by_ok
+by-p by_p
+by-q by_q
 by-ruling by_ruling
 by-test by_test
 by-verdict by_verdict
@@ -66,6 +71,7 @@ carried-call carried_call
 carried-lines carried_lines
 chosen-lawful chosen_lawful
 chosen-meaning chosen_meaning
+clear-call clear_call
 closing-bounds closing_bounds
 closing-by closing_by
 closing-of closing_of
@@ -121,24 +127,35 @@ front-push front_push
 front-sound front_sound
 granted-alike granted_alike
 granted-holds granted_holds
+h-a h_a
+h-c h_c
+h-g h_g
+h-ha h_ha
+h-hr h_hr
+h-n h_n
 has-bytes has_bytes
 has-extent has_extent
 has-rows has_rows
 has-verdict has_verdict
 header-tests header_tests
+held-by-q held_by_q
+here-q here_q
 holds-across holds_across
 holds-one holds_one
 idle-back idle_back
 idle-holds idle_holds
 idle-on idle_on
 in-live in_live
+in-q in_q
 is-nil is_nil
+is-r is_r
 is-sheet is_sheet
 is-ten is_ten
 isNumeral is_numeral
 judged-more judged_more
 judges-across judges_across
 judges-one judges_one
+k-is k_is
 keeps-closing keeps_closing
 keeps-few keeps_few
 keeps-sound keeps_sound
@@ -148,6 +165,8 @@ last-is last_is
 last-size last_size
 late-ends late_ends
 late-fault late_fault
+law-p law_p
+law-q law_q
 lawful-row lawful_row
 layer-letter layer_letter
 length-decimal-u32 length_decimal_u32
@@ -156,6 +175,7 @@ length-rows length_rows
 length-rows-of length_rows_of
 length-sheet length_sheet
 letterOf letter_of
+lettered-on lettered_on
 line-acceptance line_acceptance
 line-ended line_ended
 line-fed line_fed
@@ -192,6 +212,7 @@ no-bay no_bay
 no-fault no_fault
 no-fewer no_fewer
 no-later no_later
+no-letter no_letter
 no-memory no_memory
 no-plan no_plan
 none-begun none_begun
@@ -207,8 +228,11 @@ numbers-end numbers_end
 numeral-bad numeral_bad
 numeral-good numeral_good
 numeralOf numeral_of
+of-bay of_bay
+of-number of_number
 one-record one_record
 one-step one_step
+open-call open_call
 otherWords other_words
 out-of-turn out_of_turn
 over-put over_put
@@ -226,6 +250,7 @@ put-at put_at
 put-put put_put
 reached-if-any reached_if_any
 reached-in reached_in
+read-call read_call
 readNumbers read_numbers
 refusal-line refusal_line
 refused-bay refused_bay
@@ -317,6 +342,7 @@ steps-append steps_append
 steps-push steps_push
 table-lawful table_lawful
 table-meaning table_meaning
+take-call take_call
 taken-by taken_by
 taken-few taken_few
 taken-push taken_push
@@ -325,12 +351,15 @@ ten-goes-on ten_goes_on
 three-any three_any
 to-acceptance to_acceptance
 to-live to_live
+to-p to_p
+to-q to_q
 to-rejection to_rejection
 told-once told_once
 told-reply told_reply
 total-more total_more
 total-push total_push
 transcript-append transcript_append
+two-letters two_letters
 two-points two_points
 unchosen-lawful unchosen_lawful
 unended-append unended_append
@@ -342,6 +371,10 @@ wordBy word_by
 words-cut words_cut
 words-parts words_parts
 written-short written_short
+x-new x_new
+x-old x_old
+y-new y_new
+y-old y_old
 """
 
 TABLE = dict(line.split() for line in NAMES.split("\n") if line)

@@ -97,13 +97,13 @@ module _ (m : ℕ) (p : Boundary) where
       more : (h : List Step) (s : Step) → ToldOnce h → Replied m p h s → ToldOnce (h ++ (s ∷ []))
       more h s once replied b xs ys x y =
           ⊎_elim
-          (λ x-new. ⊎_elim
-          (λ y-new. x-new.1 ∙ sym y-new.1)
-          (λ y-old. absurd (shut b h s y-old.0 replied x-new.0 y-old.1))
+          (λ x_new. ⊎_elim
+          (λ y_new. x_new.1 ∙ sym y_new.1)
+          (λ y_old. absurd (shut b h s y_old.0 replied x_new.0 y_old.1))
           (back b h s ys y))
-          (λ x-old. ⊎_elim
-          (λ y-new. absurd (shut b h s x-old.0 replied y-new.0 x-old.1))
-          (λ y-old. sym x-old.2 ∙ ap (λ l. l ++ taken_by b s.0 (is_ok s.1)) (once b x-old.0 y-old.0 x-old.1 y-old.1) ∙ y-old.2)
+          (λ x_old. ⊎_elim
+          (λ y_new. absurd (shut b h s x_old.0 replied y_new.0 x_old.1))
+          (λ y_old. sym x_old.2 ∙ ap (λ l. l ++ taken_by b s.0 (is_ok s.1)) (once b x_old.0 y_old.0 x_old.1 y_old.1) ∙ y_old.2)
           (back b h s ys y))
           (back b h s xs x)
 

@@ -39,11 +39,11 @@ module _ (m : ℕ) (p q : Boundary) (ends : EndAlike m p q) where
         let xs = hold.0 in
         let none = subst (Judges p xs) live hold.4 in
         let all = few m p h life b xs hold.1 in
-        let by-p = judges_across (xs ++ (n ∷ [])) (All-push (λ x. x ≤ m) xs n all small) _ (judged_more p xs n none) in
-        let by-q = judged_more q xs n (judges_across xs all None none) in
+        let by_p = judges_across (xs ++ (n ∷ [])) (All-push (λ x. x ≤ m) xs n all small) _ (judged_more p xs n none) in
+        let by_q = judged_more q xs n (judges_across xs all None none) in
         subst (λ k. ruling_at p (k + 1) (r.count + n) ≡ ruling_at q (k + 1) (r.count + n)) (sym hold.2)
         (subst (λ d. ruling_at p (length xs + 1) (d + n) ≡ ruling_at q (length xs + 1) (d + n)) (sym hold.3)
-        (judges_one q (xs ++ (n ∷ [])) _ _ by-p by-q))
+        (judges_one q (xs ++ (n ∷ [])) _ _ by_p by_q))
 
     answers : (c : Call) (o : Option Record) → Holds p h (bay_of c) o → answer m has_verdict p c o ≡ answer m has_verdict q c o
     answers (Open b) o hold = refl
@@ -65,8 +65,8 @@ module _ (m : ℕ) (p q : Boundary) (ends : EndAlike m p q) where
 
     one_step : Life m q h → (s t : Step) → s.0 ≡ t.0 → Replied m p h s → Replied m q h t → s ≡ t
     one_step other s t calls x y =
-        let held-by-q = holds_across (bay_of s.0) x.0 x.1 in
-        let same = holds_one m q h other (bay_of s.0) x.0 y.0 held-by-q (subst (λ c. Holds q h (bay_of c) y.0) (sym calls) y.1) in
+        let held_by_q = holds_across (bay_of s.0) x.0 x.1 in
+        let same = holds_one m q h other (bay_of s.0) x.0 y.0 held_by_q (subst (λ c. Holds q h (bay_of c) y.0) (sym calls) y.1) in
         pair calls (x.2 ∙ answers s.0 x.0 x.1 ∙ ap (answer m has_verdict q s.0) same ∙ ap (λ c. answer m has_verdict q c y.0) calls ∙ sym y.2)
       where
         pair : {c d : Call} {r u : Result Reply Refusal} → c ≡ d → r ≡ u → ◌≡◌ {A = Step} (c, r) (d, u)

@@ -9,7 +9,7 @@ use Rattle.plan.specs.declared.refusals.Refusal.{Refusal}
 use Rattle.stand.specs.Bays.{held}
 use Rattle.stand.specs.Calls.{answer, after, bay_of, decided_by}
 use Rattle.stand.specs.declared.records.Call.{Call}
-use Rattle.stand.specs.declared.records.Call.TheVariants.{Open as open-call, Take as take-call, Read as read-call, Clear as clear-call}
+use Rattle.stand.specs.declared.records.Call.TheVariants.{Open as open_call, Take as take_call, Read as read_call, Clear as clear_call}
 use Rattle.stand.specs.declared.records.Record.{Record}
 use Rattle.stand.specs.declared.records.Reply.{Reply}
 use Rattle.text.specs.declared.commands.Command.{Command}
@@ -97,10 +97,10 @@ abbrev pub acted : State → Command → Outcome
 acted s (Line ha hr g n a) = planned s (line_meaning ha hr g n a) (line_outside ha hr g n a)
 acted s (Single n a) = planned s (single_meaning n a) (size_outside n a)
 acted s (Cut c a) = cut s c a
-acted s (Open b) = called s (open-call b)
-acted s (Read b) = called s (read-call b)
-acted s (Clear b) = called s (clear-call b)
-acted s (Take b n) = called s (take-call b n)
+acted s (Open b) = called s (open_call b)
+acted s (Read b) = called s (read_call b)
+acted s (Clear b) = called s (clear_call b)
+acted s (Take b n) = called s (take_call b n)
 
 -- The answers and replies of the code, with each fault as its refusal.
 abbrev pub told : Result Answer SessionFault → Result Answer Refusal

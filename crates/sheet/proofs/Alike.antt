@@ -92,8 +92,8 @@ level : (a b : ℕ) → (a < b → ⊥) → (b < a → ⊥) → a ≡ b
 level a b f g = ⊎_elim (λ e. e) (⊎_elim (λ l. absurd (f l)) (λ l. absurd (g l))) (cases_order a b)
 
 pub alike_from_ruled : (p q : ℤ × ℤ) (s : Span) → past p.0 ≤ whole p.1 → past q.0 ≤ whole q.1 → ((d : ℕ) → In s d → ruled p d ≡ ruled q d) → Alike p q s
-alike_from_ruled p q s law-p law-q same =
+alike_from_ruled p q s law_p law_q same =
     let back : (d : ℕ) → In s d → ruled q d ≡ ruled p d = λ d at. sym (same d at) in record {
       accepts = level _ _ (no_fewer q p s back) (no_fewer p q s same);
-      rejects = level _ _ (no_later p q s same law-p) (no_later q p s back law-q);
+      rejects = level _ _ (no_later p q s same law_p) (no_later q p s back law_q);
     }

@@ -52,20 +52,20 @@ module _ {X : Type 0} (m : ℕ) (score : X → ℕ) (kind : Kind m score) where
       both : {y x : ℕ} {ys xs : List ℕ} → y ≡ x → ys ≡ xs → ◌≡◌ {A = List ℕ} (y ∷ ys) (x ∷ xs)
       both e f = cc
 
-  module _ (p q : Boundary) (law-p : Lawful p) (law-q : Lawful q) where
+  module _ (p q : Boundary) (law_p : Lawful p) (law_q : Lawful q) where
     pub same_from_sheet : sheet m p ≡ sheet m q → SameEnds score p q
-    same_from_sheet e xs long n v = ends_from_sheet m p q law-p law-q e (map score xs) (scores_small xs) n v
+    same_from_sheet e xs long n v = ends_from_sheet m p q law_p law_q e (map score xs) (scores_small xs) n v
 
     agree_by_items : SameEnds score p q → Agree m p q
-    agree_by_items same n d one in_p in-q from =
+    agree_by_items same n d one in_p in_q from =
         let zeros : List ℕ = replicate (max_size - n) 0 in
         let xs : List ℕ = from.counts ++ zeros in
-        let long : length xs ≡ max_size = omega (arith, length-append from.counts zeros, length-replicate {A = ℕ} (max_size - n) 0, from.size, law-p.few) in
+        let long : length xs ≡ max_size = omega (arith, length-append from.counts zeros, length-replicate {A = ℕ} (max_size - n) 0, from.size, law_p.few) in
         let front : take n xs ≡ from.counts = take_at from.counts zeros n from.size in
         same_from_code _ _
         (∥∥₁_elim (lifted xs (All-append (λ x. x ≤ m) from.counts zeros from.small (few_zeros m (max_size - n)))) (ℕ_set _ _) (λ ys.
-        ap code (agree_on m p q n d one in_p in-q from xs (omega (arith, law-p.few)) front (λ k v.
+        ap code (agree_on m p q n d one in_p in_q from xs (omega (arith, law_p.few)) front (λ k v.
         subst (λ l. (Ends p l k v → Ends q l k v) × (Ends q l k v → Ends p l k v)) ys.1 (same ys.0 (sym (length-map ys.0 score) ∙ ap length ys.1 ∙ long) k v)))))
 
     pub sheet_from_same : SameEnds score p q → sheet m p ≡ sheet m q
-    sheet_from_same same = sheet_from_rulings m p q law-p law-q (agree_by_items same)
+    sheet_from_same same = sheet_from_rulings m p q law_p law_q (agree_by_items same)

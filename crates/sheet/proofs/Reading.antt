@@ -32,7 +32,7 @@ few_live r s l = by_numbers r.acceptance r.rejection l
     by_numbers (Some a) (Some q) l = grind (arith, nat_tests)
 
 -- one turn: the row r stands first, and `last` tells whether no bytes are left after it
-module _ (m i : ℕ) (s : Span) (bs : List ℕ) (r : Row) (last : Bool) (two : 2 ≤ length bs) (even : length bs % 2 ≡ 0) (is-r : r ≡ row_from (get_or bs 0 0) (get_or bs 1 0)) (is_last : last ≡ eqb (length (take (length bs - 2) (drop 2 bs))) 0) where
+module _ (m i : ℕ) (s : Span) (bs : List ℕ) (r : Row) (last : Bool) (two : 2 ≤ length bs) (even : length bs % 2 ≡ 0) (is_r : r ≡ row_from (get_or bs 0 0) (get_or bs 1 0)) (is_last : last ≡ eqb (length (take (length bs - 2) (drop 2 bs))) 0) where
   later : take (length bs - 2) (drop 2 bs) ≡ drop 2 bs
   later = take_rest bs 2
 
@@ -45,7 +45,7 @@ module _ (m i : ℕ) (s : Span) (bs : List ℕ) (r : Row) (last : Bool) (two : 2
   rest_length = ap (λ l. length l + 2) later ∙ rest_long bs two
 
   rows : rows_of bs ≡ r ∷ rows_of (drop 2 bs)
-  rows = row_first bs two ∙ ap (λ x. x ∷ rows_of (drop 2 bs)) (sym is-r)
+  rows = row_first bs two ∙ ap (λ x. x ∷ rows_of (drop 2 bs)) (sym is_r)
 
   last_is : is_nil (rows_of (drop 2 bs)) ≡ last
   last_is = none_left (drop 2 bs) (omega (arith, rest_long bs two)) ∙ sym (is_last ∙ ap (λ l. eqb (length l) 0) later)
@@ -66,8 +66,8 @@ module _ (m i : ℕ) (s : Span) (bs : List ℕ) (r : Row) (last : Bool) (two : 2
 
 -- one row more is read
 pub read_more : (done : List Row) (bs : List ℕ) (r : Row) → 2 ≤ length bs → r ≡ row_from (get_or bs 0 0) (get_or bs 1 0) → (done ++ (r ∷ [])) ++ rows_of (take (length bs - 2) (drop 2 bs)) ≡ done ++ rows_of bs
-read_more done bs r two is-r =
-    append_assoc done _ _ ∙ ap (λ l. done ++ l) (ap (λ l. r ∷ rows_of l) (take_rest bs 2) ∙ ap (λ x. x ∷ rows_of (drop 2 bs)) is-r ∙ sym (row_first bs two))
+read_more done bs r two is_r =
+    append_assoc done _ _ ∙ ap (λ l. done ++ l) (ap (λ l. r ∷ rows_of l) (take_rest bs 2) ∙ ap (λ x. x ∷ rows_of (drop 2 bs)) is_r ∙ sym (row_first bs two))
 
 -- all rows but the last, and the last, of rows that end with it
 pub front_push : (rows : List Row) (r : Row) → (front (rows ++ (r ∷ [])) ≡ rows) × (final (rows ++ (r ∷ [])) ≡ r)

@@ -37,11 +37,11 @@ small_next m p s few most t e = by_test (some_in (live p s)) refl e
         subst (λ u. (u.low < u.end) × (u.low ≤ 253) × (u.end ≤ 269)) (sym same) (omega arith, omega arith, omega arith)
     by_test false x e = absurd (let z : ◌≡◌ {A = ℕ} 0 1 = cc in omega arith)
 
-module _ (b : Boundary) (w : Walk) (s : Span) (at-start : w.reached ≡ Some s) where
+module _ (b : Boundary) (w : Walk) (s : Span) (at_start : w.reached ≡ Some s) where
   -- past the last size a walk ends
   pub stops : (w' : Walk) → asked b w.size ≡ None → w'.greatest ≡ w.greatest → Stepped b w w' None
   stops w' over kind = record {
-    lines = ap (left_at b w.greatest w.size) at-start ∙ none_left b w.greatest w.size s (asked_none b w.size w.counts over);
+    lines = ap (left_at b w.greatest w.size) at_start ∙ none_left b w.greatest w.size s (asked_none b w.size w.counts over);
     greatest = kind;
     small = λ l e. absurd (let z : ◌≡◌ {A = ℕ} 0 1 = cc in omega arith);
   }
@@ -60,9 +60,9 @@ module _ (b : Boundary) (w : Walk) (s : Span) (at-start : w.reached ≡ Some s) 
         let m = w.greatest in
         let n = w.size in
         let after : left b w' ≡ left_at b m (n + 1) (next_span m p s) = ap (λ k. left_at b k w'.size w'.reached) kind ∙ ap (λ k. left_at b m k w'.reached) size ∙ ap (left_at b m (n + 1)) next in
-        let few = w.small s at-start in
+        let few = w.small s at_start in
         record {
-          lines = ap (left_at b m n) at-start ∙ one_left b m n s at.1 ∙ ap (λ q. (s, row_over q s) ∷ left_at b m (n + 1) (next_span m q s)) (sym at.2) ∙ ap (λ l. (s, row_over p s) ∷ l) (sym after) ∙ ap (λ x. (s, x) ∷ left b w') (sym row);
+          lines = ap (left_at b m n) at_start ∙ one_left b m n s at.1 ∙ ap (λ q. (s, row_over q s) ∷ left_at b m (n + 1) (next_span m q s)) (sym at.2) ∙ ap (λ l. (s, row_over p s) ∷ l) (sym after) ∙ ap (λ x. (s, x) ∷ left b w') (sym row);
           greatest = kind;
           small = λ l e. let same : l ≡ (s, r) = cc in subst (λ x. (x.0.low ≤ x.0.end) × (x.0.end ≤ 269)) (sym same) (omega arith, few.2);
         }

@@ -213,8 +213,8 @@ module _ (m : ℕ) (p : Boundary) where
         let o = held bays (bay_of c) in
         let same = same_tests c o (same_decided h (bay_of c) o (lived.holds (bay_of c))) in
         let reply : r ≡ answer m has_verdict p c o = served.reply ∙ ap (λ t. reply_by (first_fitting t) (granted p c o)) same in
-        let bays-are : later ≡ set bays (bay_of c) (after m has_verdict p c o) = served.bays ∙ ap (λ t. set bays (bay_of c) (cond (is_some (first_fitting t)) o (left p c o))) same in
-        subst (λ x. Lived m p (h ++ ((c, x) ∷ [])) later) (sym reply) (subst (Lived m p (h ++ ((c, answer m has_verdict p c o) ∷ []))) (sym bays-are) (lived_more h bays all lived c))
+        let bays_are : later ≡ set bays (bay_of c) (after m has_verdict p c o) = served.bays ∙ ap (λ t. set bays (bay_of c) (cond (is_some (first_fitting t)) o (left p c o))) same in
+        subst (λ x. Lived m p (h ++ ((c, x) ∷ [])) later) (sym reply) (subst (Lived m p (h ++ ((c, answer m has_verdict p c o) ∷ []))) (sym bays_are) (lived_more h bays all lived c))
 
 -- at its making
 pub born : (m : ℕ) (p : Boundary) (bays : List (Option Record)) → ((b : ℕ) → held bays b ≡ None) → Lived m p [] bays

@@ -1,6 +1,6 @@
 -- The refusals of bays and of a stand's calls: cause, layer and place. Assumes nothing.
 use Rattle.plan.specs.Refusals.{refuse, refused_number}
-use Rattle.plan.specs.declared.refusals.Layer.TheVariants.{Bay as bay-layer}
+use Rattle.plan.specs.declared.refusals.Layer.TheVariants.{Bay as bay_layer}
 use Rattle.plan.specs.declared.refusals.Refusal.{Refusal}
 use Rattle.stand.specs.declared.records.BayFault.{BayFault}
 use Rattle.stand.specs.declared.records.BayFault.TheVariants.{NoSuchBay, Busy, Empty, Decided}
@@ -9,10 +9,10 @@ use Rattle.stand.specs.declared.records.StandFault.TheVariants.{Number, Bay}
 
 -- The place is the bay.
 abbrev pub refused_bay : BayFault → Refusal
-refused_bay (NoSuchBay b) = refuse 1 bay-layer b
-refused_bay (Busy b) = refuse 20 bay-layer b
-refused_bay (Empty b) = refuse 21 bay-layer b
-refused_bay (Decided b) = refuse 22 bay-layer b
+refused_bay (NoSuchBay b) = refuse 1 bay_layer b
+refused_bay (Busy b) = refuse 20 bay_layer b
+refused_bay (Empty b) = refuse 21 bay_layer b
+refused_bay (Decided b) = refuse 22 bay_layer b
 
 abbrev pub refused_call : StandFault → Refusal
 refused_call (Number e) = refused_number e

@@ -58,13 +58,13 @@ module _ {A : Type 0} where
         h.same ∙ numbers_end made p (left s)
         ∙ ap (end_on made) (ap (λ i. end_at i (first_word (left s))) (sym h.at) ∙ sym value ∙ was)
 
-lettered-on : (o : Option ℕ) (ws : List (List ℕ)) (b : ℕ) → ok_or o (unreadable 1) ≡ Ok b → lettered o ws ≡ formed (form_of b) ws
-lettered-on None ws b e = let z : ◌≡◌ {A = ℕ} 0 1 = cc in absurd (omega arith)
-lettered-on (Some a) ws b e = let same : a ≡ b = cc in ap (λ n. formed (form_of n) ws) same
+lettered_on : (o : Option ℕ) (ws : List (List ℕ)) (b : ℕ) → ok_or o (unreadable 1) ≡ Ok b → lettered o ws ≡ formed (form_of b) ws
+lettered_on None ws b e = let z : ◌≡◌ {A = ℕ} 0 1 = cc in absurd (omega arith)
+lettered_on (Some a) ws b e = let same : a ≡ b = cc in ap (λ n. formed (form_of n) ws) same
 
 command_in_on : (ws : List (List ℕ)) (b : ℕ) → word_by letter_of 1 (first_word ws) ≡ Ok b → command_in ws ≡ formed (form_of b) (other_words ws)
 command_in_on [] b e = let z : ◌≡◌ {A = ℕ} 0 1 = cc in absurd (omega arith)
-command_in_on (w ∷ ws) b e = lettered-on (letter_of w) ws b e
+command_in_on (w ∷ ws) b e = lettered_on (letter_of w) ws b e
 
 -- the first word was read as the letter b, and the reader t is at the second
 pub command_on : (line : List ℕ) (s t : Reader) (r : Result ℕ Unreadable) (b : ℕ) → length line ≤ 80 → left s ≡ words line → s.position ≡ 1 → r ≡ word_by letter_of s.position (first_word (left s)) → left t ≡ other_words (left s) → r ≡ Ok b → command_of line ≡ formed (form_of b) (left t)

@@ -57,11 +57,11 @@ extra = refl
 bad : command_of (codes "O x") ≡ Err (unreadable 2)
 bad = refl
 
-no-letter : command_of (codes "") ≡ Err (unreadable 1)
-no-letter = refl
+no_letter : command_of (codes "") ≡ Err (unreadable 1)
+no_letter = refl
 
-two-letters : command_of (codes "OO 1") ≡ Err (unreadable 1)
-two-letters = refl
+two_letters : command_of (codes "OO 1") ≡ Err (unreadable 1)
+two_letters = refl
 
 spaced_twice : command_of (codes "O  1") ≡ Err (unreadable 2)
 spaced_twice = refl
