@@ -1,3 +1,4 @@
+-- Marks keep the law of a kind: no mark counts more than 1, and 0 and 1 each have a mark. Assumes nothing.
 use Rattle.std.specs.Prelude.{◌≡◌, ℕ, zero, suc, ◌≤◌, refl}
 use Rattle.std.proofs.Common.{arith}
 use Rattle.plan.specs.Items.{mark_score}

@@ -1,5 +1,5 @@
 -- One line of a session: what is left, what is replied, and what the reply buffer holds. Assumes nothing.
-use Rattle.std.specs.Prelude.{◌≡◌, ℕ, ◌+◌, ◌≤◌, min, false, cond, ltb, List, length, Ok, Err, Result, nat_lt}
+use Rattle.std.specs.Prelude.{◌≡◌, ℕ, ◌+◌, ◌≤◌, min, false, cond, List, length, Ok, Err, Result, nat_lt}
 use Rattle.plan.specs.Refusals.{refuse}
 use Rattle.plan.specs.declared.refusals.Layer.TheVariants.{Text, Memory}
 use Rattle.plan.specs.declared.refusals.Refusal.{Refusal}
@@ -39,7 +39,7 @@ pub record Answered (s s' : State) (n n' : ℕ) (line buffer buffer' : List ℕ)
   pub state : s' ≡ cond (nat_lt (length buffer) reply_room) s (heard s line).0
   pub bytes : buffer' ≡ cond (nat_lt (length buffer) reply_room) buffer (over (reply_to s line (next_line n)) buffer)
   pub result : r ≡ cond (nat_lt (length buffer) reply_room) (Err (refuse 13 Memory 96, next_line n)) (Ok (length (reply_to s line (next_line n))))
-  pub short : ltb (length buffer) reply_room ≡ false → length (reply_to s line (next_line n)) ≤ reply_room
+  pub short : nat_lt (length buffer) reply_room ≡ false → length (reply_to s line (next_line n)) ≤ reply_room
 
 -- A refused line as its refusal and its number.
 abbrev pub told_line : Result ℕ RefusedLine → Result ℕ (Refusal × ℕ)
