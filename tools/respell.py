@@ -8,6 +8,7 @@ in the clauses and ghost imports of src/, and in nothing else. Functions, fields
 inputs and outputs keep their names; comments are left as they are.
 """
 import glob
+import os
 import re
 
 # old name, new name
@@ -386,6 +387,8 @@ def turned(text):
 
 
 def main():
+    if os.path.exists("docs/PORT.md"):
+        raise SystemExit("docs/PORT.md stands: the names here are respelled already")
     count = 0
     for path in sorted(glob.glob("crates/**/*.antt", recursive=True) + glob.glob("crates/**/*.rt", recursive=True)):
         if "/out/" in path:
