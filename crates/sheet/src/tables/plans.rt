@@ -1,7 +1,7 @@
 // A table as a plan.
 ghost use Rattle.std.specs.Prelude.{◌≡◌, [], negsuc};
 ghost use Rattle.sheet.specs.Tables.{pair_of, table_meaning};
-ghost use Rattle.std.proofs.Common.{rules, arith};
+ghost use Rattle.std.proofs.Common.{rules};
 
 use super::Table;
 use crate::rows::Row;
@@ -39,7 +39,7 @@ fn pair_of(row: Row) -> (i32, i32)
 impl Plan for Table {
     ghost meaning = { λ t. table_meaning t.rows.items t.closing };
 
-    ghost lawful = { first_of (Prim.search rules, Prim.grind (arith, Self.row.coded.inj)) };
+    ghost lawful = { Prim.search rules };
 
     fn last_size(&self) -> u32 {
         self.rows.len() as u32 + 1
