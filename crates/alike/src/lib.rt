@@ -15,10 +15,10 @@ use sheet::comparing::same_sheet;
 // every series of 4,096 items at the same item with the same verdict, and exactly if two stands made with them reply
 // alike to every list of calls.
 pub fn interchangeable<K: Item, P: Plan, Q: Plan>(one: &P, other: &Q) -> bool
-    ensures sheets { Tells result (sheet_bytes K.Item.greatest (P.Plan.meaning one.now) ≡ sheet_bytes K.Item.greatest (Q.Plan.meaning other.now)) }
-    ensures ends { Tells result (SameEnds K.Item.score (P.Plan.meaning one.now) (Q.Plan.meaning other.now)) }
-    ensures stands { Tells result (ReplyAlike K.Item.greatest (P.Plan.meaning one.now) (Q.Plan.meaning other.now)) }
-    ensures lives { (Lives K.Item.greatest (P.Plan.meaning one.now)) × (Lives K.Item.greatest (Q.Plan.meaning other.now)) }
+    ensures sheets { Tells result (sheet_bytes K.GREATEST (P.meaning one.now) ≡ sheet_bytes K.GREATEST (Q.meaning other.now)) }
+    ensures ends { Tells result (SameEnds K.score (P.meaning one.now) (Q.meaning other.now)) }
+    ensures stands { Tells result (ReplyAlike K.GREATEST (P.meaning one.now) (Q.meaning other.now)) }
+    ensures lives { (Lives K.GREATEST (P.meaning one.now)) × (Lives K.GREATEST (Q.meaning other.now)) }
 {
     same_sheet::<K, P, Q>(one, other)
 }

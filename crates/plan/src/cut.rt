@@ -34,7 +34,7 @@ fn held(pair: (i32, i32), number: u32) -> (i32, i32)
 }
 
 impl<P: Plan> Plan for Cut<P> {
-    ghost meaning = { λ p. cut_meaning p.numbers.size p.numbers.number (P.Plan.meaning p.below) };
+    ghost meaning = { λ p. cut_meaning p.numbers.size p.numbers.number (P.meaning p.below) };
 
     ghost lawful = { Prim.search rules };
 

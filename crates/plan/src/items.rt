@@ -9,18 +9,14 @@ pub trait Item {
     // the greatest count of an item
     const GREATEST: u32;
 
-    // the greatest count, and the count of an item, as clauses name them
-    ghost greatest: { ℕ };
+    ghost GREATEST: { ℕ };
 
     ghost score: { Self → ℕ };
-
-    fn greatest_count() -> u32
-        ensures { result ≡ greatest };
 
     fn count(&self) -> u32
         ensures { result ≡ score self.now };
 
-    ghost kind: { Kind greatest score };
+    ghost kind: { Kind GREATEST score };
 }
 
 // A mark: conforming or nonconforming.
@@ -33,15 +29,11 @@ pub enum Mark {
 impl Item for Mark {
     const GREATEST: u32 = 1;
 
-    ghost greatest = { 1 };
+    ghost GREATEST = { 1 };
 
     ghost score = { mark_score };
 
     ghost kind = { record { small = omega arith; bounded = bounded; onto = onto } };
-
-    fn greatest_count() -> u32 {
-        Self::GREATEST
-    }
 
     fn count(&self) -> u32 {
         match self {
@@ -61,15 +53,11 @@ pub struct FaultNumber {
 impl Item for FaultNumber {
     const GREATEST: u32 = 15;
 
-    ghost greatest = { 15 };
+    ghost GREATEST = { 15 };
 
     ghost score = { λ x. x.number };
 
     ghost kind = { record { small = omega arith; bounded = λ x. x.few; onto = λ n h. ∣ (record { number = n; few = h }, refl) ∣₁ } };
-
-    fn greatest_count() -> u32 {
-        Self::GREATEST
-    }
 
     fn count(&self) -> u32 {
         self.number

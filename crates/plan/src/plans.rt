@@ -38,7 +38,7 @@ pub fn ruling(pair: (i32, i32), count: u32) -> Option<Verdict>
 
 // The verdict of a plan on a count at a size; none where the plan has no such size.
 pub fn rule<P: Plan>(plan: &P, size: u32, count: u32) -> Option<Verdict>
-    ensures { result ≡ ruling_at (P.Plan.meaning plan.now) size count }
+    ensures { result ≡ ruling_at (P.meaning plan.now) size count }
 {
     match plan.pair(size) {
         Some(pair) => ruling(pair, count),

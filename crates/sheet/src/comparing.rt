@@ -9,7 +9,7 @@ use plan::plans::Plan;
 
 // Whether two plans have the same sheet, for a kind of item.
 pub fn same_sheet<K: Item, P: Plan, Q: Plan>(one: &P, other: &Q) -> bool
-    ensures { Tells result (sheet K.Item.greatest (P.Plan.meaning one.now) ≡ sheet K.Item.greatest (Q.Plan.meaning other.now)) }
+    ensures { Tells result (sheet K.GREATEST (P.meaning one.now) ≡ sheet K.GREATEST (Q.meaning other.now)) }
 {
     let mut walk = Walk::new::<K>();
     let mut beside = Walk::new::<K>();

@@ -35,9 +35,9 @@ fn number_byte(number: Option<u8>) -> u8
 
 // Writes the rows of a plan's sheet at a place, and says the place after them.
 fn put_rows<K: Item, P: Plan>(plan: &P, out: &mut [u8], start: usize) -> usize
-    requires { start + length (flat_map row_bytes (sheet K.Item.greatest (P.Plan.meaning plan.now))) ≤ length out.old }
-    ensures bytes { out.new ≡ put_at out.old start (flat_map row_bytes (sheet K.Item.greatest (P.Plan.meaning plan.now))) }
-    ensures place { result ≡ start + length (flat_map row_bytes (sheet K.Item.greatest (P.Plan.meaning plan.now))) }
+    requires { start + length (flat_map row_bytes (sheet K.GREATEST (P.meaning plan.now))) ≤ length out.old }
+    ensures bytes { out.new ≡ put_at out.old start (flat_map row_bytes (sheet K.GREATEST (P.meaning plan.now))) }
+    ensures place { result ≡ start + length (flat_map row_bytes (sheet K.GREATEST (P.meaning plan.now))) }
 {
     let mut walk = Walk::new::<K>();
     let mut at = start;
@@ -54,15 +54,15 @@ fn put_rows<K: Item, P: Plan>(plan: &P, out: &mut [u8], start: usize) -> usize
 // Draws the sheet of a plan, for a kind of item, at the front of a buffer, and says how many bytes it has. A buffer that
 // is too short is refused before a byte is written.
 pub fn draw<K: Item, P: Plan>(plan: &P, buffer: &mut [u8]) -> Result<usize, SheetFault>
-    ensures drawn { Drawn K.Item.greatest (P.Plan.meaning plan.now) buffer.old buffer.new (told result) }
-    ensures series { SheetOf K.Item.score (P.Plan.meaning plan.now) (sheet K.Item.greatest (P.Plan.meaning plan.now)) }
+    ensures drawn { Drawn K.GREATEST (P.meaning plan.now) buffer.old buffer.new (told result) }
+    ensures series { SheetOf K.score (P.meaning plan.now) (sheet K.GREATEST (P.meaning plan.now)) }
 {
     let rows = extent_of::<K, P>(plan).rows;
     let needed = HEADER + 2 * rows as usize;
     if buffer.len() < needed {
         return Err(SheetFault::ShortBuffer(needed as u32));
     }
-    let kind = K::greatest_count() as u8;
+    let kind = K::GREATEST as u8;
     let low = (rows % 256) as u8;
     let high = (rows / 256) as u8;
     let start = put(buffer, 0, &[b'S', b'Q', b'A', 1, 0, kind, low, high]);

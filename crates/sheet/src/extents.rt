@@ -15,8 +15,8 @@ pub struct Extent {
 
 // The extent of a plan's sheet, for a kind of item.
 pub fn extent_of<K: Item, P: Plan>(plan: &P) -> Extent
-    ensures rows { result.rows ≡ length (sheet K.Item.greatest (P.Plan.meaning plan.now)) }
-    ensures points { result.points ≡ points K.Item.greatest (P.Plan.meaning plan.now) }
+    ensures rows { result.rows ≡ length (sheet K.GREATEST (P.meaning plan.now)) }
+    ensures points { result.points ≡ points K.GREATEST (P.meaning plan.now) }
 {
     let mut walk = Walk::new::<K>();
     let mut rows = 0;

@@ -55,7 +55,7 @@ impl<K: Item, P: Plan> Stand<K, P> {
 
     // Starts the record of a lot in an empty bay, and replies the bay.
     pub fn open(&mut self, bay: u32) -> Result<u32, BayFault>
-        ensures served { Served K.Item.greatest (P.Plan.meaning self.old.plan) (Open bay) self.old.bays self.new.bays (told Opened refused_bay result) }
+        ensures served { Served K.GREATEST (P.meaning self.old.plan) (Open bay) self.old.bays self.new.bays (told Opened refused_bay result) }
         ensures plan { self.new.plan ≡ self.old.plan }
     {
         if look(&self.bays, bay)?.is_some() {
@@ -71,7 +71,7 @@ impl<K: Item, P: Plan> Stand<K, P> {
 
     // The record of the lot in a bay.
     pub fn read(&self, bay: u32) -> Result<Record, BayFault>
-        ensures { Served K.Item.greatest (P.Plan.meaning self.now.plan) (Read bay) self.now.bays self.now.bays (told Lot refused_bay result) }
+        ensures { Served K.GREATEST (P.meaning self.now.plan) (Read bay) self.now.bays self.now.bays (told Lot refused_bay result) }
     {
         match look(&self.bays, bay)? {
             Some(lot) => Ok(lot),
@@ -81,7 +81,7 @@ impl<K: Item, P: Plan> Stand<K, P> {
 
     // The record of the lot in a bay, which is empty then.
     pub fn clear(&mut self, bay: u32) -> Result<Record, BayFault>
-        ensures served { Served K.Item.greatest (P.Plan.meaning self.old.plan) (Clear bay) self.old.bays self.new.bays (told Lot refused_bay result) }
+        ensures served { Served K.GREATEST (P.meaning self.old.plan) (Clear bay) self.old.bays self.new.bays (told Lot refused_bay result) }
         ensures plan { self.new.plan ≡ self.old.plan }
     {
         match look(&self.bays, bay)? {
@@ -95,11 +95,11 @@ impl<K: Item, P: Plan> Stand<K, P> {
 
     // Takes an item, by its count, into the lot in a bay: the plan rules on the lot, whose record is replied.
     pub fn take(&mut self, bay: u32, count: u32) -> Result<Record, StandFault>
-        ensures served { Served K.Item.greatest (P.Plan.meaning self.old.plan) (Take bay count) self.old.bays self.new.bays (told Lot refused_call result) }
+        ensures served { Served K.GREATEST (P.meaning self.old.plan) (Take bay count) self.old.bays self.new.bays (told Lot refused_call result) }
         ensures plan { self.new.plan ≡ self.old.plan }
     {
         let holds = look(&self.bays, bay)?;
-        if count > K::greatest_count() {
+        if count > K::GREATEST {
             return Err(StandFault::Number(NumberFault::CountTooLarge));
         }
         let Some(lot) = holds else {
@@ -122,7 +122,7 @@ impl<K: Item, P: Plan> Stand<K, P> {
 
     // Any of the four calls.
     pub fn call(&mut self, call: Call) -> Result<Reply, StandFault>
-        ensures served { Served K.Item.greatest (P.Plan.meaning self.old.plan) call self.old.bays self.new.bays (told (λ x. x) refused_call result) }
+        ensures served { Served K.GREATEST (P.meaning self.old.plan) call self.old.bays self.new.bays (told (λ x. x) refused_call result) }
         ensures plan { self.new.plan ≡ self.old.plan }
     {
         match call {

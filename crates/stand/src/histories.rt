@@ -13,7 +13,7 @@ pub fn run<K: Item, P: Plan>(plan: P, history: &mut [Entry]) -> Stand<K, P>
     ensures plan { result.plan ≡ plan }
     ensures calls { map call_of history.new ≡ map call_of history.old }
     ensures replies { length (steps history.new) ≡ length history.old }
-    ensures lived { Lived K.Item.greatest (P.Plan.meaning plan) (steps history.new) result.bays }
+    ensures lived { Lived K.GREATEST (P.meaning plan) (steps history.new) result.bays }
 {
     let mut stand = Stand::new(plan);
     for step in history.iter_mut() {

@@ -16,7 +16,7 @@ as_much r A B t f g = (λ x. f (t.0 x), λ b. t.1 (g b))
 
 pub returns : goal.returns
 returns g c =
-    let m = g.K.Item.greatest in
+    let m = g.K.Item.GREATEST in
     let kind = g.met.K.Item.kind in
     let p = g.P.Plan.meaning c.args.one.now in
     let q = g.Q.Plan.meaning c.args.other.now in

@@ -10,11 +10,11 @@ use std::alloc::Global;
 impl Table {
     // Reads a sheet for a kind of item, and says how many rows it has. A refused load leaves the table as it was.
     pub fn load<K: Item>(&mut self, heap: Global, bytes: &[u8]) -> Result<u32, LoadFault>
-        ensures loaded { Loaded (fault_in K.Item.greatest bytes.now) K.Item.greatest bytes.now self.old self.new result }
-        ensures exact { Exact K.Item.greatest bytes.now }
-        ensures redrawn { Redrawn K.Item.greatest bytes.now self.new result }
+        ensures loaded { Loaded (fault_in K.GREATEST bytes.now) K.GREATEST bytes.now self.old self.new result }
+        ensures exact { Exact K.GREATEST bytes.now }
+        ensures redrawn { Redrawn K.GREATEST bytes.now self.new result }
     {
-        let mut rows = read_rows(heap, rows_checked(K::greatest_count(), bytes)?)?;
+        let mut rows = read_rows(heap, rows_checked(K::GREATEST, bytes)?)?;
         let count = rows.len() as u32;
         if let Some(last) = rows.pop() {
             *self = Table {

@@ -68,11 +68,11 @@ fn row_over(reached: Span, pair: (i32, i32)) -> Row
 impl Walk {
     // At the first size, for a kind of item.
     pub fn new<K: Item>() -> Walk
-        ensures greatest { result.greatest ≡ K.Item.greatest }
+        ensures greatest { result.greatest ≡ K.GREATEST }
         ensures size { result.size ≡ 1 }
-        ensures reached { result.reached ≡ some (first K.Item.greatest) }
+        ensures reached { result.reached ≡ some (first K.GREATEST) }
     {
-        let greatest = K::greatest_count();
+        let greatest = K::GREATEST;
         Walk {
             greatest,
             size: 1,
@@ -85,7 +85,7 @@ impl Walk {
 
     // The counts reached at the next size and their row, if the walk has not ended.
     pub fn next<P: Plan>(&mut self, plan: &P) -> Option<(Span, Row)>
-        ensures { Stepped (P.Plan.meaning plan.now) self.old self.new result }
+        ensures { Stepped (P.meaning plan.now) self.old self.new result }
     {
         let reached = self.reached?;
         let Some(pair) = plan.pair(self.size) else {

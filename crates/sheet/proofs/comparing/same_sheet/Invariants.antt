@@ -6,7 +6,7 @@ use Rattle.sheet.proofs.comparing.same_sheet.Given as goal
 
 abbrev pub invariant-loop-row : goal.invariant-loop-row
 invariant-loop-row g l =
-    Follows (sheet g.K.Item.greatest (g.P.Plan.meaning l.one)) (sheet g.K.Item.greatest (g.Q.Plan.meaning l.other))
+    Follows (sheet g.K.Item.GREATEST (g.P.Plan.meaning l.one)) (sheet g.K.Item.GREATEST (g.Q.Plan.meaning l.other))
     (map row_in (left (g.P.Plan.meaning l.one) l.walk)) (map row_in (left (g.Q.Plan.meaning l.other) l.beside))
 
 abbrev pub decreases-loop-row : goal.decreases-loop-row

@@ -13,21 +13,21 @@ use Rattle.sheet.proofs.drawing.draw.Goals as goal
 pub overflow_cast-result : goal.overflow_cast-result
 overflow_cast-result g c =
     let b = g.P.Plan.meaning c.args.plan.now in
-    let most = sheet_few g.K.Item.greatest b (g.met.P.Plan.lawful _) in
-    let few : c.extent_of-rows.result.rows ≤ 4096 = omega (arith, c.extent_of-rows.ensures.rows, length-map (lines g.K.Item.greatest b) row_in) in
+    let most = sheet_few g.K.Item.GREATEST b (g.met.P.Plan.lawful _) in
+    let few : c.extent_of-rows.result.rows ≤ 4096 = omega (arith, c.extent_of-rows.ensures.rows, length-map (lines g.K.Item.GREATEST b) row_in) in
     search rules
 
 pub returns-then-buffer-needed : goal.returns-then-buffer-needed
 returns-then-buffer-needed g c = record {
   drawn = too_short _ _ _ _ (ap (λ n. 8 + 2 * n) c.extent_of-rows.ensures.rows) c.if-buffer-needed.true;
-  series = sheet_drawn g.K.Item.greatest g.K.Item.score g.met.K.Item.kind _ (g.met.P.Plan.lawful c.args.plan.now);
+  series = sheet_drawn g.K.Item.GREATEST g.K.Item.score g.met.K.Item.kind _ (g.met.P.Plan.lawful c.args.plan.now);
 }
 
 pub overflow_cast-high : goal.overflow_cast-high
 overflow_cast-high g c =
     let b = g.P.Plan.meaning c.args.plan.now in
-    let most = sheet_few g.K.Item.greatest b (g.met.P.Plan.lawful _) in
-    let few : c.extent_of-rows.result.rows ≤ 4096 = omega (arith, c.extent_of-rows.ensures.rows, length-map (lines g.K.Item.greatest b) row_in) in
+    let most = sheet_few g.K.Item.GREATEST b (g.met.P.Plan.lawful _) in
+    let few : c.extent_of-rows.result.rows ≤ 4096 = omega (arith, c.extent_of-rows.ensures.rows, length-map (lines g.K.Item.GREATEST b) row_in) in
     let high : c.extent_of-rows.result.rows / 256 < 256 = omega arith in
     search rules
 
@@ -37,7 +37,7 @@ begun m b buffer out kind rows k r e = e ∙ ap (put_at buffer 0) (header_is kin
 
 pub put_rows-requires : goal.put_rows-requires
 put_rows-requires g c =
-    let m = g.K.Item.greatest in
+    let m = g.K.Item.GREATEST in
     let b = g.P.Plan.meaning c.args.plan.now in
     let rows = c.extent_of-rows.result.rows in
     let room : 8 + 2 * rows ≤ length c.args.buffer.now = c.if-buffer-needed.false in
@@ -46,7 +46,7 @@ put_rows-requires g c =
 
 pub returns : goal.returns
 returns g c =
-    let m = g.K.Item.greatest in
+    let m = g.K.Item.GREATEST in
     let b = g.P.Plan.meaning c.args.plan.now in
     let is = c.extent_of-rows.ensures.rows in
     let room : 8 + 2 * length (sheet m b) ≤ length c.args.buffer.now = omega (arith, c.if-buffer-needed.false, is) in

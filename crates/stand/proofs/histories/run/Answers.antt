@@ -18,7 +18,7 @@ loop-step-preserved g c =
     let served = c.call.ensures.served in
     let inside : i < length c.loop-step.history = omega (arith, c.loop-step-test.true, c.loop-step.auto.history) in
     let new = wrote c.loop-step.history i _ c.call.result inside in
-    let lived = served_lived g.K.Item.greatest _ (g.met.P.Plan.lawful _) _ _ _ _ _ inv.1 inv.4 served in (
+    let lived = served_lived g.K.Item.GREATEST _ (g.met.P.Plan.lawful _) _ _ _ _ _ inv.1 inv.4 served in (
       c.call.ensures.plan ∙ inv.0,
       ap length served.bays ∙ length-set _ _ _ ∙ inv.1,
       new.0 ∙ inv.2,

@@ -8,4 +8,4 @@ invariant-loop-step g l =
     × (length l.stand.bays ≡ 32)
     × (map call_of l.history ≡ map call_of l.initial.history)
     × (length (steps (take l.step-index l.history)) ≡ l.step-index)
-    × Lived g.K.Item.greatest (g.P.Plan.meaning l.stand.plan) (steps (take l.step-index l.history)) l.stand.bays
+    × Lived g.K.Item.GREATEST (g.P.Plan.meaning l.stand.plan) (steps (take l.step-index l.history)) l.stand.bays

@@ -8,7 +8,7 @@ use Rattle.sheet.proofs.tables.Table.load.Goals as goal
 
 pub returns-in_err-rows_checked : goal.returns-in_err-rows_checked
 returns-in_err-rows_checked g c =
-    let m = g.K.Item.greatest in
+    let m = g.K.Item.GREATEST in
     let bytes = c.args.bytes.now in
     let p = err_from_is_err_and c.from_residual.result c.from_residual.ensures.1 in
     let fault = ap (λ k. fault_in k bytes) (sym c.greatest_count.ensures) ∙ c.in_err-rows_checked.ensures in
@@ -17,7 +17,7 @@ returns-in_err-rows_checked g c =
 
 pub returns-in_err-rows : goal.returns-in_err-rows
 returns-in_err-rows g c =
-    let m = g.K.Item.greatest in
+    let m = g.K.Item.GREATEST in
     let bytes = c.args.bytes.now in
     let p = err_from_is_err_and c.from_residual-in_err-rows.result c.from_residual-in_err-rows.ensures.1 in
     let none = ap (λ k. fault_in k bytes) (sym c.greatest_count.ensures) ∙ c.in_ok-rows_checked.ensures.0 in
@@ -35,7 +35,7 @@ overflow_cast-count g c =
 
 pub invariant_of-drop : goal.invariant_of-drop
 invariant_of-drop g c =
-    let m = g.K.Item.greatest in
+    let m = g.K.Item.GREATEST in
     let bytes = c.args.bytes.now in
     let left = vec_items c.pop.new.self in
     let last = c.in-Some.last in
@@ -52,7 +52,7 @@ invariant_of-drop g c =
 
 pub returns-in-Some : goal.returns-in-Some
 returns-in-Some g c =
-    let m = g.K.Item.greatest in
+    let m = g.K.Item.GREATEST in
     let bytes = c.args.bytes.now in
     let left = vec_items c.pop.new.self in
     let last = c.in-Some.last in

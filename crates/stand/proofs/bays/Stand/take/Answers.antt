@@ -16,19 +16,19 @@ returns-in_err-holds g c =
 pub returns-then-count-greatest_count : goal.returns-then-count-greatest_count
 returns-then-count-greatest_count g c =
     let e = c.in_ok-holds.ensures in
-    let more : g.K.Item.greatest < c.args.count = omega (arith, c.greatest_count.ensures) in
+    let more : g.K.Item.GREATEST < c.args.count = omega (arith, c.greatest_count.ensures) in
     record { served = too_large _ _ _ _ e.0 _ more; plan = refl }
 
 pub returns-in_default : goal.returns-in_default
 returns-in_default g c =
     let e = c.in_ok-holds.ensures in
-    let few : c.args.count ≤ g.K.Item.greatest = omega (arith, c.greatest_count.ensures) in
+    let few : c.args.count ≤ g.K.Item.GREATEST = omega (arith, c.greatest_count.ensures) in
     record { served = none_to_take _ _ _ _ e.0 _ few (sym e.1 ∙ c.in_default.is); plan = refl }
 
 pub returns-then-is_decided : goal.returns-then-is_decided
 returns-then-is_decided g c =
     let e = c.in_ok-holds.ensures in
-    let few : c.args.count ≤ g.K.Item.greatest = omega (arith, c.greatest_count.ensures) in
+    let few : c.args.count ≤ g.K.Item.GREATEST = omega (arith, c.greatest_count.ensures) in
     record { served = over _ _ _ _ e.0 _ few c.in-Some.lot (sym e.1 ∙ c.in-Some.is) (ap (λ l. is_some c.in-Some.lot.verdict || leb l c.in-Some.lot.size) (sym c.last_size.ensures) ∙ sym c.if-is_decided.ensures); plan = refl }
 
 -- the lot with one more item stays small
