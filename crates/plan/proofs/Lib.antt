@@ -1,4 +1,3 @@
-pub mod Rows
 pub mod Judging
 pub mod Lawfulness
 pub mod Worked

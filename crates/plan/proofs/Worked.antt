@@ -1,37 +1,30 @@
 -- The worked examples, by computing. Assumes nothing.
-use Rattle.std.proofs.Common.{◌≡◌, ℕ, zero, suc, ◌≤◌, Bool, true, false, ◌&&◌, T, List, take, pos, None, refl, ⊎_elim, arith}
-use lib.Signed.{lt_z}
-use Rattle.std.proofs.lemmas.Bool.{cases_lt}
+use Rattle.std.proofs.Common.{◌≡◌, ℕ, zero, suc, ◌≤◌, Bool, true, ◌&&◌, List, take, pos, int_lt, None, refl, ⊎_elim, subst, rules, arith}
+use Rattle.std.proofs.lemmas.Bool.{cases_lt, and_parts}
 use Rattle.plan.specs.Boundaries.{Boundary}
 use Rattle.plan.specs.Rulings.{Rules, total}
 use Rattle.plan.specs.Examples.{ExamplesHold, ten, late_fault}
 
 -- the count of a series at a size lies between the pair
 abbrev live_test : Boundary → List ℕ → ℕ → Bool
-live_test b xs k = lt_z (b.pairs k).0 (pos (total (take k xs))) && lt_z (pos (total (take k xs))) (b.pairs k).1
+live_test b xs k = int_lt (b.pairs k).0 (pos (total (take k xs))) && int_lt (pos (total (take k xs))) (b.pairs k).1
 
 abbrev live_tests : Boundary → List ℕ → ℕ → Bool
 live_tests b xs zero = true
 live_tests b xs (suc n) = live_test b xs (suc n) && live_tests b xs n
 
-and_left : (x y : Bool) → T (x && y) → T x
-and_left true y t = tt
-and_left false y t = t
+live_from : (b : Boundary) (xs : List ℕ) (k : ℕ) → live_test b xs k ≡ true → Rules (b.pairs k) (total (take k xs)) None
+live_from b xs k t =
+    let both = and_parts (int_lt (b.pairs k).0 (pos (total (take k xs)))) (int_lt (pos (total (take k xs))) (b.pairs k).1) t in
+    (search (rules, both), search (rules, both))
 
-and_right : (x y : Bool) → T (x && y) → T y
-and_right true y t = t
-and_right false y t = absurd t
-
-live_from : (b : Boundary) (xs : List ℕ) (k : ℕ) → T (live_test b xs k) → Rules (b.pairs k) (total (take k xs)) None
-live_from b xs k t = (record { lt = and_left _ _ t }, record { lt = and_right _ _ t })
-
-lives : (b : Boundary) (xs : List ℕ) (n : ℕ) → T (live_tests b xs n) → (k : ℕ) → 1 ≤ k → k ≤ n → Rules (b.pairs k) (total (take k xs)) None
+lives : (b : Boundary) (xs : List ℕ) (n : ℕ) → live_tests b xs n ≡ true → (k : ℕ) → 1 ≤ k → k ≤ n → Rules (b.pairs k) (total (take k xs)) None
 lives b xs zero t k h l = absurd (omega arith)
 lives b xs (suc n) t k h l =
     ⊎_elim
-    (λ below. lives b xs n (and_right (live_test b xs (suc n)) (live_tests b xs n) t) k h (omega arith))
+    (λ below. lives b xs n (and_parts (live_test b xs (suc n)) _ t).1 k h (omega arith))
     (λ above. let same : suc n ≡ k = omega arith in
-    mathlib.Core.Path.subst (λ m. Rules (b.pairs m) (total (take m xs)) None) same (live_from b xs (suc n) (and_left _ (live_tests b xs n) t)))
+    subst (λ m. Rules (b.pairs m) (total (take m xs)) None) same (live_from b xs (suc n) (and_parts _ (live_tests b xs n) t).0))
     (cases_lt k (suc n))
 
 pub worked : ExamplesHold
@@ -56,9 +49,9 @@ worked = (
                   (
                     refl,
                     (
-                      lives ten late_fault 49 tt,
+                      lives ten late_fault 49 refl,
                       (
-                        record { size = (omega arith, omega arith); reached = omega arith; before = λ k h l. lives ten late_fault 49 tt k h (omega arith); there = record { le = tt } },
+                        record { size = (omega arith, omega arith); reached = omega arith; before = λ k h l. lives ten late_fault 49 refl k h (omega arith); there = record { le = tt } },
                         (
                           record { size = (omega arith, omega arith); reached = omega arith; before = λ k h l. absurd (omega arith); there = (record { lt = tt }, record { le = tt }) },
                           tt,

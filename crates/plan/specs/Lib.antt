@@ -5,7 +5,6 @@ pub mod Checks
 pub mod Makes
 pub mod Items
 pub mod Carried
-pub mod Rows
 pub mod Examples
 pub mod Refusals
 pub mod MarkItemLemmas

@@ -1,7 +1,8 @@
 // The thirteen lines that the product carries: those for producer's risk quality 1.00 %, named by consumer's risk quality.
-ghost use Rattle.std.specs.Prelude.{◌≡◌, T, map};
+ghost use Rattle.std.specs.Prelude.{◌≡◌, ◌==◌, IsTrue};
+ghost use Rattle.std.specs.Option.{option_map};
+ghost use Rattle.std.specs.List.{find};
 ghost use Rattle.plan.specs.Carried.{Holds, all_within, carried_lines, line_of};
-ghost use Rattle.plan.specs.Rows.{row_of};
 
 use crate::numbers::LineNumbers;
 
@@ -147,20 +148,18 @@ const CARRIED: [CarriedLine; 13] = [
 
 // The numbers of the first line of a quality.
 fn line_of(lines: &[CarriedLine], quality: u32) -> Option<LineNumbers>
-    ensures { Holds (line_of quality (map row_of lines.now)) result }
+    ensures { result ≡ option_map (λ c. c.numbers) (find (λ c. c.quality == quality) lines.now) }
 {
-    for line in lines {
-        if line.quality == quality {
-            return Some(line.numbers);
-        }
-    }
-    None
+    lines
+        .iter()
+        .find(|line| line.quality == quality)
+        .map(|line| line.numbers)
 }
 
 // The numbers of the carried line of a consumer's risk quality, in hundredths of a percent.
 pub fn carried_line(quality: u32) -> Option<LineNumbers>
     ensures line { Holds (line_of quality carried_lines) result }
-    ensures limits { T (all_within carried_lines) }
+    ensures limits { IsTrue (all_within carried_lines) }
 {
     line_of(&CARRIED, quality)
 }

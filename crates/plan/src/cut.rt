@@ -6,6 +6,7 @@ ghost use Rattle.std.proofs.Common.{rules};
 
 use crate::numbers::CutNumbers;
 use crate::plans::Plan;
+use std::cmp::Ordering;
 
 #[derive(Clone, Copy, Drop)]
 pub struct Cut<P> {
@@ -48,12 +49,10 @@ impl<P: Plan> Plan for Cut<P> {
             size: cut_size,
             number,
         } = self.numbers;
-        if size > cut_size {
-            None
-        } else if size < cut_size {
-            Some(held(pair, number))
-        } else {
-            Some((number as i32, number as i32 + 1))
+        match size.cmp(&cut_size) {
+            Ordering::Less => Some(held(pair, number)),
+            Ordering::Equal => Some((number as i32, number as i32 + 1)),
+            Ordering::Greater => None,
         }
     }
 }

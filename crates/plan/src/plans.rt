@@ -40,8 +40,5 @@ pub fn ruling(pair: (i32, i32), count: u32) -> Option<Verdict>
 pub fn rule<P: Plan>(plan: &P, size: u32, count: u32) -> Option<Verdict>
     ensures { result ≡ ruling_at (P.meaning plan.now) size count }
 {
-    match plan.pair(size) {
-        Some(pair) => ruling(pair, count),
-        None => None,
-    }
+    ruling(plan.pair(size)?, count)
 }

@@ -1,7 +1,6 @@
-// Refusals: every fault has a cause, a layer and a place.
+// Refusals: every fault has a cause, a layer and a place, and turns into its refusal by `From`.
 ghost use Rattle.std.specs.Prelude.{◌≡◌};
 ghost use Rattle.plan.specs.Refusals.{refused_number};
-ghost use Rattle.plan.specs.declared.refusals.Refusal.{Refusal as Told};
 
 use crate::numbers::NumberFault;
 
@@ -22,23 +21,15 @@ pub struct Refusal {
     pub place: u32,
 }
 
-// A fault, and the refusal that it stands for.
-pub trait Fault {
-    ghost refused: { Self → Told };
+impl From<NumberFault> for Refusal {
+    ghost from_gives = { λ e r. r ≡ refused_number e };
 
-    fn refusal(&self) -> Refusal
-        ensures { result ≡ refused self.now };
-}
-
-impl Fault for NumberFault {
-    ghost refused = { refused_number };
-
-    fn refusal(&self) -> Refusal {
-        match self {
+    fn from(e: NumberFault) -> Refusal {
+        match e {
             NumberFault::OutsideLimits(position) => Refusal {
                 cause: 2,
                 layer: Layer::Number,
-                place: *position,
+                place: position,
             },
             NumberFault::CountTooLarge => Refusal {
                 cause: 3,

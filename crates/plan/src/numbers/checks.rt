@@ -18,10 +18,10 @@ pub const MAX_SLOPE: u32 = 999_999;
 fn limited(position: u32, number: u64, low: u32, high: u32) -> Result<u32, NumberFault>
     ensures { MatchResult result (λ n. (n ≡ number) × Within low high n × (within low high number ≡ true)) (λ e. (e ≡ OutsideLimits position) × (within low high number ≡ false)) }
 {
-    if number < u64::from(low) || number > u64::from(high) {
-        return Err(NumberFault::OutsideLimits(position));
+    match u32::try_from(number) {
+        Ok(number) if (low..=high).contains(&number) => Ok(number),
+        _ => Err(NumberFault::OutsideLimits(position)),
     }
-    Ok(number as u32)
 }
 
 impl LineNumbers {
