@@ -105,8 +105,7 @@ module _ (b : Boundary) where
             let k_is : k ≡ length xs + 1 = omega (arith, e.reached, length_push xs n) in
             let there : Rules (b.pairs (length xs + 1)) (total xs + n) (Some w) = subst (λ d. Rules (b.pairs (length xs + 1)) d (Some w)) whole (subst (λ j. Rules (b.pairs j) (total (take j longer)) (Some w)) k_is e.there) in
             let same : ◌≡◌ {A = Option Verdict} None (Some w) = rules_one _ _ None (Some w) r there in
-            let z : ◌≡◌ {A = ℕ} 0 1 = cc in
-            omega arith)
+            cc)
             (cases_lt k (length xs + 1))
         by_ruling within (Some w) r = (
           length xs + 1,

@@ -1,4 +1,3 @@
 pub mod Emptiness
-pub mod Service
 pub mod Splits
 pub mod Living

@@ -91,7 +91,7 @@ module _ (b : ℕ) (h : List Step) (s : Step) where
 
 -- tests that do not fit
 pub not_first : (x : Bool) (e : Refusal) (y : Option Refusal) → cond x (Some e) y ≡ None → (x ≡ false) × (y ≡ None)
-not_first true e y h = absurd (let z : ◌≡◌ {A = ℕ} 0 1 = cc in omega arith)
+not_first true e y h = cc
 not_first false e y h = (refl, h)
 
 pub none_from : (o : Option Verdict) → is_some o ≡ false → o ≡ None
@@ -106,7 +106,7 @@ module _ (m : ℕ) (p : Boundary) where
   granted_holds h (Take b n) None f hold =
       let q = (not_first (ltb 31 b) _ _ f).1 in
       let t = (not_first (ltb m n) _ _ q).1 in
-      absurd (let z : ◌≡◌ {A = ℕ} 0 1 = cc in omega arith)
+      cc
   granted_holds h (Take b n) (Some r) f hold =
       let q = (not_first (ltb 31 b) _ _ f).1 in
       let t = (not_first (ltb m n) _ _ q).1 in
@@ -118,25 +118,25 @@ module _ (m : ℕ) (p : Boundary) where
       let sized : length xs + 1 ≡ r.size + 1 = ap (λ k. k + 1) (sym hold.2) in
       let counted : total xs + n ≡ r.count + n = ap (λ k. k + n) (sym hold.3) in (
         xs ++ (n ∷ []),
-        pushed b h s xs (n ∷ []) hold.1 (λ cl. let z : ◌≡◌ {A = ℕ} 0 1 = kinds cl.0 in omega arith) there,
+        pushed b h s xs (n ∷ []) hold.1 (λ cl. kinds cl.0) there,
         ap (λ k. k + 1) hold.2 ∙ sym (length_push xs n),
         sym counted ∙ sym (total_push xs n),
         subst (λ d. Judges p (xs ++ (n ∷ [])) (ruling_at p (r.size + 1) d)) counted (subst (λ k. Judges p (xs ++ (n ∷ [])) (ruling_at p k (total xs + n))) sized judged),
       )
     where
-      kinds : {a k : ℕ} {b : ℕ} → ◌≡◌ {A = Call} (Take a k) (Clear b) → ◌≡◌ {A = ℕ} 0 1
+      kinds : {a k : ℕ} {b : ℕ} → ◌≡◌ {A = Call} (Take a k) (Clear b) → ⊥
       kinds e = cc
   granted_holds h (Read b) o f hold = idle_holds b h _ p (λ x. shut x.0, λ x. kept x.0, refl) o hold
     where
       shut : {a b : ℕ} → ◌≡◌ {A = Call} (Read a) (Open b) → ⊥
-      shut e = let z : ◌≡◌ {A = ℕ} 0 1 = cc in omega arith
+      shut e = cc
 
       kept : {a b : ℕ} → ◌≡◌ {A = Call} (Read a) (Clear b) → ⊥
-      kept e = let z : ◌≡◌ {A = ℕ} 0 1 = cc in omega arith
+      kept e = cc
   granted_holds h (Clear b) o f hold = λ xs occ. (popped b h _ xs occ (λ x. shut x.0)).1 (refl, refl)
     where
       shut : {a b : ℕ} → ◌≡◌ {A = Call} (Clear a) (Open b) → ⊥
-      shut e = let z : ◌≡◌ {A = ℕ} 0 1 = cc in omega arith
+      shut e = cc
 
   -- a bay that is not there is refused
   no_bay : (c : Call) (o : Option Record) → 31 < bay_of c → first_fitting (tests m has_verdict c o) ≡ Some (refuse 1 Bay (bay_of c))
@@ -224,8 +224,8 @@ born m p bays none = record {
 }
   where
     empty : (e : List Step) (s : Step) (t : List Step) → [] ≡ e ++ (s ∷ t) → ⊥
-    empty [] s t eq = let z : ◌≡◌ {A = ℕ} 0 1 = cc in omega arith
-    empty (x ∷ e) s t eq = let z : ◌≡◌ {A = ℕ} 0 1 = cc in omega arith
+    empty [] s t eq = cc
+    empty (x ∷ e) s t eq = cc
 
 -- one more entry with its reply
 steps_append : (es fs : List Entry) → steps (es ++ fs) ≡ steps es ++ steps fs

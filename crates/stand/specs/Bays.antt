@@ -3,6 +3,11 @@ use Rattle.std.specs.Prelude.{◌≡◌, ℕ, ◌*◌, ◌≤◌, List, Some, No
 use Rattle.plan.specs.Limits.{max_size, max_count}
 use Rattle.stand.specs.declared.records.Record.{Record}
 
+-- What a stand shows: its plan, and what each bay holds.
+pub record Standing (P : Type 0) : Type 0 where
+  pub plan : P
+  pub bays : List (Option Record)
+
 -- A bay is empty, or holds the record of its lot. A bay that is not there is empty.
 abbrev pub held : List (Option Record) → ℕ → Option Record
 held bays b = slice_index_or bays b None

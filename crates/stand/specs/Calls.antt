@@ -5,7 +5,7 @@ use Rattle.plan.specs.Refusals.{refuse}
 use Rattle.plan.specs.Rulings.{ruling_at}
 use Rattle.plan.specs.declared.refusals.Layer.TheVariants.{Bay, Number}
 use Rattle.plan.specs.declared.refusals.Refusal.{Refusal}
-use Rattle.stand.specs.Bays.{held}
+use Rattle.stand.specs.Bays.{Standing, held}
 use Rattle.stand.specs.declared.records.Call.{Call}
 use Rattle.stand.specs.declared.records.Call.TheVariants.{Open, Take, Read, Clear}
 use Rattle.stand.specs.declared.records.Record.{Record}
@@ -95,3 +95,8 @@ pub record Served (m : ℕ) (p : Boundary) (c : Call) (before later : List (Opti
   pub reply : r ≡ answer m (decided_by p) p c (held before (bay_of c))
   pub bays : later ≡ slice_set before (bay_of c) (after m (decided_by p) p c (held before (bay_of c)))
   pub kept : is_ok r ≡ false → later ≡ before
+
+-- A stand that serves a call keeps its plan.
+pub record Serves {P : Type 0} (m : ℕ) (meaning : P → Boundary) (c : Call) (s s' : Standing P) (r : Result Reply Refusal) : Type 0 where
+  pub served : Served m (meaning s.plan) c s.bays s'.bays r
+  pub plan : s'.plan ≡ s.plan

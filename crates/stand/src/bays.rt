@@ -1,7 +1,7 @@
 // A stand: one plan and 32 bays.
 ghost use Rattle.std.specs.Prelude.{◌≡◌, ◌<◌, ◌||◌, replicate, is_some, None as none, MatchResult, nat_le};
-ghost use Rattle.stand.specs.Bays.{Small, held};
-ghost use Rattle.stand.specs.Calls.{Served, told};
+ghost use Rattle.stand.specs.Bays.{held};
+ghost use Rattle.stand.specs.Calls.{Serves, told};
 ghost use Rattle.stand.specs.Refusals.{refused_bay, refused_call};
 ghost use Rattle.stand.specs.declared.records.BayFault.TheVariants.{NoSuchBay};
 ghost use Rattle.stand.specs.declared.records.Call.TheVariants.{Open, Take, Read, Clear};
@@ -11,7 +11,7 @@ use crate::records::{BayFault, Call, Record, Reply, StandFault};
 use plan::items::Item;
 use plan::numbers::NumberFault;
 use plan::plans::{Plan, rule};
-use std::marker::PhantomData;
+use std::marker::{Model, PhantomData};
 
 // How many bays a stand has.
 pub const BAYS: usize = 32;
@@ -21,17 +21,26 @@ pub struct Stand<K, P> {
     plan: P,
     bays: [Option<Record>; BAYS],
     kind: PhantomData<K>,
-    ghost small: { Small bays },
+}
+
+// A stand is seen as its plan and what its bays hold.
+impl<K, P> Model for Stand<K, P> {
+    ghost use Rattle.stand.specs.Bays.{Standing, Small};
+
+    ghost Value = { Standing P };
+
+    ghost view = { λ s. record { plan = s.plan; bays = s.bays } };
+
+    ghost invariant = { λ s. Small s.bays };
 }
 
 // What a bay holds; a bay above the last is refused.
 fn look(bays: &[Option<Record>; BAYS], bay: u32) -> Result<Option<Record>, BayFault>
     ensures { MatchResult result (λ o. (bay < 32) × (o ≡ held bays.now bay)) (λ e. (31 < bay) × (e ≡ NoSuchBay bay)) }
 {
-    if bay as usize >= BAYS {
-        return Err(BayFault::NoSuchBay(bay));
-    }
-    Ok(bays[bay as usize])
+    bays.get(bay as usize)
+        .copied()
+        .ok_or(BayFault::NoSuchBay(bay))
 }
 
 // Whether a lot takes no more items: it has a verdict, or stands at the plan's last size.
@@ -44,7 +53,7 @@ fn is_decided(lot: Record, last_size: u32) -> bool
 impl<K: Item, P: Plan> Stand<K, P> {
     // A stand with all bays empty.
     pub fn new(plan: P) -> Stand<K, P>
-        ensures { (result.plan ≡ plan) × (result.bays ≡ replicate 32 none) }
+        ensures { result ≡ record { plan = plan; bays = replicate 32 none } }
     {
         Stand {
             plan,
@@ -55,58 +64,42 @@ impl<K: Item, P: Plan> Stand<K, P> {
 
     // Starts the record of a lot in an empty bay, and replies the bay.
     pub fn open(&mut self, bay: u32) -> Result<u32, BayFault>
-        ensures served { Served K.GREATEST (P.meaning self.old.plan) (Open bay) self.old.bays self.new.bays (told Opened refused_bay result) }
-        ensures plan { self.new.plan ≡ self.old.plan }
+        ensures { Serves K.GREATEST P.meaning (Open bay) self.old self.new (told Opened refused_bay result) }
     {
         if look(&self.bays, bay)?.is_some() {
             return Err(BayFault::Busy(bay));
         }
-        self.bays[bay as usize] = Some(Record {
-            size: 0,
-            count: 0,
-            verdict: None,
-        });
+        self.bays[bay as usize] = Some(Record::default());
         Ok(bay)
     }
 
     // The record of the lot in a bay.
     pub fn read(&self, bay: u32) -> Result<Record, BayFault>
-        ensures { Served K.GREATEST (P.meaning self.now.plan) (Read bay) self.now.bays self.now.bays (told Lot refused_bay result) }
+        ensures { Serves K.GREATEST P.meaning (Read bay) self.now self.now (told Lot refused_bay result) }
     {
-        match look(&self.bays, bay)? {
-            Some(lot) => Ok(lot),
-            None => Err(BayFault::Empty(bay)),
-        }
+        look(&self.bays, bay)?.ok_or(BayFault::Empty(bay))
     }
 
     // The record of the lot in a bay, which is empty then.
     pub fn clear(&mut self, bay: u32) -> Result<Record, BayFault>
-        ensures served { Served K.GREATEST (P.meaning self.old.plan) (Clear bay) self.old.bays self.new.bays (told Lot refused_bay result) }
-        ensures plan { self.new.plan ≡ self.old.plan }
+        ensures { Serves K.GREATEST P.meaning (Clear bay) self.old self.new (told Lot refused_bay result) }
     {
-        match look(&self.bays, bay)? {
-            Some(lot) => {
-                self.bays[bay as usize] = None;
-                Ok(lot)
-            }
-            None => Err(BayFault::Empty(bay)),
-        }
+        let lot = look(&self.bays, bay)?.ok_or(BayFault::Empty(bay))?;
+        self.bays[bay as usize] = None;
+        Ok(lot)
     }
 
     // Takes an item, by its count, into the lot in a bay: the plan rules on the lot, whose record is replied.
     pub fn take(&mut self, bay: u32, count: u32) -> Result<Record, StandFault>
-        ensures served { Served K.GREATEST (P.meaning self.old.plan) (Take bay count) self.old.bays self.new.bays (told Lot refused_call result) }
-        ensures plan { self.new.plan ≡ self.old.plan }
+        ensures { Serves K.GREATEST P.meaning (Take bay count) self.old self.new (told Lot refused_call result) }
     {
         let holds = look(&self.bays, bay)?;
         if count > K::GREATEST {
-            return Err(StandFault::Number(NumberFault::CountTooLarge));
+            return Err(NumberFault::CountTooLarge.into());
         }
-        let Some(lot) = holds else {
-            return Err(StandFault::Bay(BayFault::Empty(bay)));
-        };
+        let lot = holds.ok_or(BayFault::Empty(bay))?;
         if is_decided(lot, self.plan.last_size()) {
-            return Err(StandFault::Bay(BayFault::Decided(bay)));
+            return Err(BayFault::Decided(bay).into());
         }
         let size = lot.size + 1;
         let count = lot.count + count;
@@ -122,14 +115,13 @@ impl<K: Item, P: Plan> Stand<K, P> {
 
     // Any of the four calls.
     pub fn call(&mut self, call: Call) -> Result<Reply, StandFault>
-        ensures served { Served K.GREATEST (P.meaning self.old.plan) call self.old.bays self.new.bays (told (λ x. x) refused_call result) }
-        ensures plan { self.new.plan ≡ self.old.plan }
+        ensures { Serves K.GREATEST P.meaning call self.old self.new (told (λ x. x) refused_call result) }
     {
-        match call {
-            Call::Open(bay) => Ok(Reply::Opened(self.open(bay)?)),
-            Call::Take(bay, count) => Ok(Reply::Lot(self.take(bay, count)?)),
-            Call::Read(bay) => Ok(Reply::Lot(self.read(bay)?)),
-            Call::Clear(bay) => Ok(Reply::Lot(self.clear(bay)?)),
-        }
+        Ok(match call {
+            Call::Open(bay) => Reply::Opened(self.open(bay)?),
+            Call::Take(bay, count) => Reply::Lot(self.take(bay, count)?),
+            Call::Read(bay) => Reply::Lot(self.read(bay)?),
+            Call::Clear(bay) => Reply::Lot(self.clear(bay)?),
+        })
     }
 }

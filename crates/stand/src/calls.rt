@@ -2,10 +2,11 @@
 ghost use Rattle.std.specs.Prelude.{◌≡◌};
 ghost use Rattle.stand.specs.Calls.{bay_of};
 ghost use Rattle.stand.specs.Refusals.{refused_bay, refused_call};
-ghost use Rattle.stand.specs.declared.records.StandFault.TheVariants.{Bay};
+ghost use Rattle.stand.specs.declared.records.StandFault.TheVariants.{Bay, Number};
 
 use crate::records::{BayFault, Call, StandFault};
-use plan::refusals::{Fault, Layer, Refusal};
+use plan::numbers::NumberFault;
+use plan::refusals::{Layer, Refusal};
 
 impl Call {
     // The bay that a call names.
@@ -13,23 +14,21 @@ impl Call {
         ensures { result ≡ bay_of self }
     {
         match self {
-            Call::Open(bay) => bay,
+            Call::Open(bay) | Call::Read(bay) | Call::Clear(bay) => bay,
             Call::Take(bay, _) => bay,
-            Call::Read(bay) => bay,
-            Call::Clear(bay) => bay,
         }
     }
 }
 
-impl Fault for BayFault {
-    ghost refused = { refused_bay };
+impl From<BayFault> for Refusal {
+    ghost from_gives = { λ e r. r ≡ refused_bay e };
 
-    fn refusal(&self) -> Refusal {
-        let (cause, place) = match self {
-            BayFault::NoSuchBay(bay) => (1, *bay),
-            BayFault::Busy(bay) => (20, *bay),
-            BayFault::Empty(bay) => (21, *bay),
-            BayFault::Decided(bay) => (22, *bay),
+    fn from(e: BayFault) -> Refusal {
+        let (cause, place) = match e {
+            BayFault::NoSuchBay(bay) => (1, bay),
+            BayFault::Busy(bay) => (20, bay),
+            BayFault::Empty(bay) => (21, bay),
+            BayFault::Decided(bay) => (22, bay),
         };
         Refusal {
             cause,
@@ -39,14 +38,22 @@ impl Fault for BayFault {
     }
 }
 
-impl Fault for StandFault {
-    ghost refused = { refused_call };
+impl From<StandFault> for Refusal {
+    ghost from_gives = { λ e r. r ≡ refused_call e };
 
-    fn refusal(&self) -> Refusal {
-        match self {
-            StandFault::Number(fault) => fault.refusal(),
-            StandFault::Bay(fault) => fault.refusal(),
+    fn from(e: StandFault) -> Refusal {
+        match e {
+            StandFault::Number(fault) => fault.into(),
+            StandFault::Bay(fault) => fault.into(),
         }
+    }
+}
+
+impl From<NumberFault> for StandFault {
+    ghost from_gives = { λ e r. r ≡ Number e };
+
+    fn from(e: NumberFault) -> StandFault {
+        StandFault::Number(e)
     }
 }
 

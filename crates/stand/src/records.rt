@@ -3,7 +3,7 @@ use plan::numbers::NumberFault;
 use plan::verdicts::Verdict;
 
 // A lot under inspection: the items taken so far, their count, and the verdict if there is one.
-#[derive(Clone, Copy, Debug, PartialEq, Eq)]
+#[derive(Clone, Copy, Debug, Default, PartialEq, Eq)]
 pub struct Record {
     pub size: u32,
     pub count: u32,

@@ -2,4 +2,4 @@ use Rattle.stand.proofs.Emptiness.{small_none}
 use Rattle.stand.proofs.bays.Stand.new.Goals as goal
 
 pub invariant_of-result : goal.invariant_of-result
-invariant_of-result g c = record { small = small_none 32 }
+invariant_of-result g c = small_none 32
