@@ -6,7 +6,7 @@ mod sheets;
 
 #[cfg(test)]
 mod tests {
-    use plan::refusals::Fault;
+    use plan::refusals::Refusal;
     use session::turns::Session;
     use std::test::Fail;
 
@@ -95,7 +95,7 @@ mod tests {
             Ok(_) => return Err(Fail::new("a short buffer was taken")),
             Err(refused) => {
                 assert_eq!(rt; refused.line, 1);
-                assert_eq!(rt; refused.fault.refusal().cause, 13);
+                assert_eq!(rt; Refusal::from(refused.fault).cause, 13);
             }
         }
         assert_eq!(rt; buffer, [b'.'; 95]);

@@ -30,14 +30,13 @@ pub data State : Type 0 where
   fresh : Boundary → State
   working : Boundary → List (Option Record) → State
 
--- Until the session works, what its stand holds has no meaning.
-abbrev pub stands : Turn → Boundary → List (Option Record) → State
-stands NoPlan p bays = waiting
-stands (Fresh b) p bays = fresh (base_meaning b)
-stands Working p bays = working p bays
+abbrev pub standing : Turn → State
+standing NoPlan = waiting
+standing (Fresh b) = fresh (base_meaning b)
+standing (Working s) = working (chosen_meaning s.plan) s.bays
 
 abbrev pub view : Session → State
-view s = stands s.turn (chosen_meaning s.stand.plan) s.stand.bays
+view s = standing s.turn
 
 -- What is left, and the answer.
 abbrev pub Outcome : Type 0
@@ -106,7 +105,3 @@ acted s (Take b n) = called s (take_call b n)
 abbrev pub told : Result Answer SessionFault → Result Answer Refusal
 told (Ok a) = Ok a
 told (Err e) = Err (refused_line e)
-
-abbrev pub told_reply : Result Reply SessionFault → Result Reply Refusal
-told_reply (Ok r) = Ok r
-told_reply (Err e) = Err (refused_line e)

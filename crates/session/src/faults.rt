@@ -5,7 +5,7 @@ ghost use Rattle.session.specs.declared.faults.SessionFault.TheVariants.{Bay, Nu
 ghost use Rattle.session.specs.Carried.{carried_call};
 
 use plan::numbers::NumberFault;
-use plan::refusals::{Fault, Layer, Refusal};
+use plan::refusals::{Layer, Refusal};
 use stand::records::{BayFault, StandFault};
 use text::Unreadable;
 
@@ -30,13 +30,13 @@ pub struct RefusedLine {
     pub line: u32,
 }
 
-impl Fault for SessionFault {
-    ghost refused = { refused_line };
+impl From<SessionFault> for Refusal {
+    ghost from_gives = { λ e r. r ≡ refused_line e };
 
-    fn refusal(&self) -> Refusal {
-        let (cause, layer, place) = match self {
-            SessionFault::Number(fault) => return fault.refusal(),
-            SessionFault::Bay(fault) => return fault.refusal(),
+    fn from(e: SessionFault) -> Refusal {
+        let (cause, layer, place) = match e {
+            SessionFault::Number(fault) => return fault.into(),
+            SessionFault::Bay(fault) => return fault.into(),
             SessionFault::NoReading(unreadable) => (12, Layer::Text, unreadable.position),
             SessionFault::ShortBuffer => (13, Layer::Memory, 96),
             SessionFault::NoPlan => (23, Layer::Text, 1),
@@ -71,8 +71,8 @@ impl From<StandFault> for SessionFault {
 
     fn from(e: StandFault) -> SessionFault {
         match e {
-            StandFault::Number(fault) => SessionFault::Number(fault),
-            StandFault::Bay(fault) => SessionFault::Bay(fault),
+            StandFault::Number(fault) => fault.into(),
+            StandFault::Bay(fault) => fault.into(),
         }
     }
 }

@@ -10,18 +10,17 @@ mod sessions;
 pub use sessions::{LAST_LINE, REPLY_ROOM};
 
 // No plan yet; a plan that may still be cut; or a stand at work.
-#[derive(Clone, Copy)]
+#[derive(Drop)]
 pub enum Turn {
     NoPlan,
     Fresh(Base),
-    Working,
+    Working(Stand<Mark, Chosen>),
 }
 
-// A session: its turn, its stand, which counts once it works, and the number of the last line.
+// A session: its turn, and the number of the last line.
 #[derive(Drop)]
 pub struct Session {
     turn: Turn,
-    stand: Stand<Mark, Chosen>,
     line: u32,
 }
 

@@ -3,14 +3,11 @@ ghost use Rattle.std.specs.Prelude.{◌≡◌, ◌≤◌, length};
 ghost use Rattle.session.specs.Sessions.{Answered, heard, reply_to, told_line};
 ghost use Rattle.session.specs.Replies.{Spelt};
 ghost use Rattle.session.specs.Turns.State.{waiting};
-ghost use Rattle.session.specs.Turns.{told, view};
+ghost use Rattle.session.specs.Turns.{standing, told, view};
 
 use super::{Answer, Session, Turn};
-use crate::chosen::Chosen;
 use crate::faults::{RefusedLine, SessionFault};
 use crate::replies::{spell_answer, spell_refusal};
-use plan::refusals::Fault;
-use stand::bays::Stand;
 use text::command;
 
 // A reply buffer has at least this many bytes.
@@ -18,6 +15,13 @@ pub const REPLY_ROOM: usize = 96;
 
 // Lines count up to this number, and stay there.
 pub const LAST_LINE: u32 = 999_999;
+
+// Reads a line and does what it says.
+fn obey(turn: &mut Turn, line: &[u8]) -> Result<Answer, SessionFault>
+    ensures { (standing turn.new, told result) ≡ heard (standing turn.old) line.now }
+{
+    turn.act(command(line)?)
+}
 
 impl Session {
     // No plan yet, and no line.
@@ -27,17 +31,8 @@ impl Session {
     {
         Session {
             turn: Turn::NoPlan,
-            stand: Stand::new(Chosen::Unchosen),
             line: 0,
         }
-    }
-
-    // Reads a line and does what it says.
-    fn obey(&mut self, line: &[u8]) -> Result<Answer, SessionFault>
-        ensures acts { (view self.new, told result) ≡ heard (view self.old) line.now }
-        ensures line { self.new.line ≡ self.old.line }
-    {
-        self.act(command(line)?)
     }
 
     // Writes the reply to a line, and says how long it is.
@@ -47,9 +42,9 @@ impl Session {
         ensures spelt { Spelt (reply_to (view self.old) line.now self.old.line) buffer.old buffer.new result }
         ensures line { self.new.line ≡ self.old.line }
     {
-        match self.obey(line) {
+        match obey(&mut self.turn, line) {
             Ok(answer) => spell_answer(buffer, answer),
-            Err(fault) => spell_refusal(buffer, fault.refusal(), self.line),
+            Err(fault) => spell_refusal(buffer, fault.into(), self.line),
         }
     }
 
