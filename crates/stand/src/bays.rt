@@ -114,6 +114,7 @@ impl<K: Item, P: Plan> Stand<K, P> {
     }
 
     // Any of the four calls.
+    #[inline(always)]
     pub fn call(&mut self, call: Call) -> Result<Reply, StandFault>
         ensures { Serves K.GREATEST P.meaning call self.old self.new (told (λ x. x) refused_call result) }
     {

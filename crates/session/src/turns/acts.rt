@@ -47,6 +47,7 @@ fn single(last_size: u32, number: u32) -> Result<Base, NumberFault>
 
 impl Turn {
     // Puts a call to the stand. The first call puts the plan to work, unless the stand refuses it.
+    #[inline(always)]
     fn call(&mut self, call: Call) -> Result<Answer, SessionFault>
         ensures { (standing self.new, told result) ≡ called (standing self.old) call }
     {
