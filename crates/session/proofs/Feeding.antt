@@ -1,9 +1,8 @@
 -- Lines of an input, answered as they end. Assumes nothing.
-use Rattle.std.proofs.Common.{◌≡◌, ℕ, ◌+◌, ◌-◌, ◌<◌, ◌≤◌, min, Bool, true, false, cond, eqb, ltb, leb, List, [], ◌∷◌, ◌++◌, length, take, drop, Some, None, Ok, Err, Result, sym, refl, ap, ◌∙◌, ⊎_elim, append_assoc, append-nil, arith}
+use Rattle.std.proofs.Common.{◌≡◌, ℕ, ◌+◌, ◌-◌, ◌<◌, ◌≤◌, min, Bool, true, false, cond, eqb, ltb, leb, List, [], ◌∷◌, ◌++◌, length, take, drop, Some, None, Ok, Err, Result, sym, refl, ap, ◌∙◌, subst, ⊎_elim, append_assoc, append-nil, arith}
 use Rattle.std.proofs.lemmas.List.{take_all, take_at, take-take, take-append-drop, drop_at, drop_all, drop-drop, drop-take, length-append, length-drop, length_push, length-take}
 use borrow.Rule.Slice.PartMut.{put_mid}
 use Rattle.std.proofs.lemmas.Bool.{cond-false, cases_lt, le-ltb, lt-leb, eqb-true}
-use Rattle.std.specs.Result.{result_unwrap_or}
 use Rattle.plan.specs.declared.refusals.Refusal.{Refusal}
 use Rattle.text.specs.Commands.{command_of, command_in}
 use Rattle.text.specs.Cuts.{before, after}
@@ -13,11 +12,11 @@ use Rattle.text.specs.Words.{words}
 use Rattle.text.proofs.TextLaws.{written_short}
 use Rattle.session.specs.Feeds.{Fed, Finished, LineEnded, ended, kept, unended, transcript, state_after, number_after}
 use Rattle.text.specs.Writes.{over}
-use Rattle.session.specs.Replies.{line_for}
+use Rattle.session.specs.Replies.{line_for, Spelt}
+use Rattle.session.proofs.Spelling.{over_chunk}
 use Rattle.session.specs.Sessions.{Answered, heard, obeyed, next_line, reply_to, told_line}
 use Rattle.session.specs.Turns.{State, view}
 use Rattle.session.specs.declared.feeds.Feed.{Feed}
-use Rattle.session.specs.declared.faults.RefusedLine.{RefusedLine}
 
 -- of a line only the first 96 bytes matter
 same_command : (l : List ℕ) → command_of (take 96 l) ≡ command_of l
@@ -32,27 +31,48 @@ same_command l =
 pub same_heard : (s : State) (l : List ℕ) → heard s (take 96 l) ≡ heard s l
 same_heard s l = ap (obeyed s) (same_command l)
 
-ok_from : (r : Result ℕ RefusedLine) (n : ℕ) → told_line r ≡ Ok n → result_unwrap_or r 0 ≡ n
-ok_from (Ok m) n e = cc
-ok_from (Err x) n e = absurd (let z : ◌≡◌ {A = ℕ} 0 1 = cc in omega arith)
-
 -- a line answered into a buffer with room; `full` is the whole line
 pub line_ended :
-    (f f' : Feed) (line full buffer buffer' : List ℕ) (r : Result ℕ RefusedLine) (k : ℕ) → 96 ≤ length buffer → heard (view f.session) line ≡ heard (view f.session) full → kept f' ≡ [] → k ≡ result_unwrap_or r 0
-    → Answered (view f.session) (view f'.session) f.session.line f'.session.line line buffer buffer' (told_line r) → LineEnded f f' full buffer buffer' k
-line_ended f f' line full buffer buffer' r k room same none is a =
+    (f f' : Feed) (line full buffer buffer' : List ℕ) (k : ℕ) → heard (view f.session) line ≡ heard (view f.session) full → kept f' ≡ [] → view f'.session ≡ (heard (view f.session) line).0
+    → f'.session.line ≡ next_line f.session.line → Spelt (reply_to (view f.session) line (next_line f.session.line)) buffer buffer' k → LineEnded f f' full buffer buffer' k
+line_ended f f' line full buffer buffer' k same none state number spelt =
     let s = view f.session in
     let n = next_line f.session.line in
-    let long : ltb (length buffer) 96 ≡ false = le-ltb _ _ room in
     let text : reply_to s line n ≡ reply_to s full n = ap (λ o. line_for o.1 n) same in
-    let value : k ≡ length (reply_to s line n) = is ∙ ok_from r _ (a.result ∙ cond-false _ _ _ long) in
     record {
-      state = a.state ∙ cond-false _ _ _ long ∙ ap (λ o. o.0) same;
-      number = a.number;
+      state = state ∙ ap (λ o. o.0) same;
+      number = number;
       left = none;
-      written = value ∙ ap length text;
-      room = omega (arith, value, a.short long);
-      bytes = a.bytes ∙ cond-false _ _ _ long ∙ ap (λ t. over t buffer) text;
+      written = spelt.count ∙ ap length text;
+      room = spelt.short;
+      bytes = spelt.bytes ∙ ap (λ t. over t buffer) text;
+    }
+
+-- a line answered into the first 96 bytes of a buffer
+pub chunk_ended : (f f' : Feed) (line b out' : List ℕ) (k : ℕ) → LineEnded f f' line (take 96 b) out' k → LineEnded f f' line b (out' ++ drop 96 b) k
+chunk_ended f f' line b out' k e = record {
+  state = e.state;
+  number = e.number;
+  left = e.left;
+  written = e.written;
+  room = e.room;
+  bytes = ap (λ l. l ++ drop 96 b) e.bytes ∙ over_chunk (reply_to (view f.session) line (next_line f.session.line)) b (omega (arith, e.written, e.room));
+}
+
+-- the reply to a line, written into a buffer with room
+pub answered :
+    (s s' : State) (n n' : ℕ) (line b out' : List ℕ) (k : ℕ) → 96 ≤ length b → s' ≡ (heard s line).0 → n' ≡ next_line n → Spelt (reply_to s line (next_line n)) (take 96 b) out' k
+    → Answered s s' n n' line b (out' ++ drop 96 b) (Ok k)
+answered s s' n n' line b out' k room state number spelt =
+    let long : ltb (length b) 96 ≡ false = le-ltb _ _ room in
+    let text = reply_to s line (next_line n) in
+    let bytes : out' ++ drop 96 b ≡ over text b = ap (λ l. l ++ drop 96 b) spelt.bytes ∙ over_chunk text b (omega (arith, spelt.count, spelt.short)) in
+    record {
+      number = number;
+      state = state ∙ sym (cond-false _ _ _ long);
+      bytes = bytes ∙ sym (cond-false _ _ _ long);
+      result = ap Ok spelt.count ∙ sym (cond-false _ _ _ long);
+      short = λ _. omega (arith, spelt.count, spelt.short);
     }
 
 -- lines of one input after another
@@ -95,7 +115,7 @@ none_ended p (x ∷ xs) = by_test (eqb x 10) refl (none_ended (p ++ (x ∷ [])) 
     by_test false e ih = (cond-false _ _ _ e ∙ ih.0, cond-false _ _ _ e ∙ ih.1 ∙ append_assoc p (x ∷ []) (before 10 xs))
 
 pub cut_joined : (xs ys : List ℕ) → after 10 xs ≡ Some ys → xs ≡ before 10 xs ++ (10 ∷ ys)
-cut_joined [] ys e = absurd (let z : ◌≡◌ {A = ℕ} 0 1 = cc in omega arith)
+cut_joined [] ys e = cc
 cut_joined (x ∷ xs) ys e = by_test (eqb x 10) refl e (cut_joined xs ys)
   where
     by_test : (t : Bool) → eqb x 10 ≡ t → cond t (Some xs) (after 10 xs) ≡ Some ys → (after 10 xs ≡ Some ys → xs ≡ before 10 xs ++ (10 ∷ ys)) → x ∷ xs ≡ cond t [] (x ∷ before 10 xs) ++ (10 ∷ ys)
@@ -109,7 +129,7 @@ cut_whole [] e = refl
 cut_whole (x ∷ xs) e = by_test (eqb x 10) e (cut_whole xs)
   where
     by_test : (t : Bool) → cond t (Some xs) (after 10 xs) ≡ None → (after 10 xs ≡ None → before 10 xs ≡ xs) → cond t [] (x ∷ before 10 xs) ≡ x ∷ xs
-    by_test true e ih = absurd (let z : ◌≡◌ {A = ℕ} 0 1 = cc in omega arith)
+    by_test true e ih = cc
     by_test false e ih = ap (λ l. x ∷ l) (ih e)
 
 -- how far a feed has come at the end of a line
@@ -144,6 +164,24 @@ take_on k m xs =
 
 length_over : (t b : List ℕ) → length t ≤ length b → length (over t b) ≡ length b
 length_over t b h = length-append t (drop (length t) b) ∙ omega (arith, length-drop (length t) b)
+
+-- the buffer may not hold another reply: nothing more is read or written
+pub stopped :
+    (f g g' : Feed) (input buffer b b' rest : List ℕ) (k w : ℕ) → Sofar f g input buffer b k w → rest ≡ drop k input → length b' < 96 → g' ≡ g → b' ≡ drop w b
+    → Fed f g' input buffer (put_mid w (length b - w) b b') (record { «read» = length input - length rest; written = w })
+stopped f g g' input buffer b b' rest k w s is short same_feed same =
+    let len : length b' ≡ length b - w = ap length same ∙ length-drop w b in
+    let all : length b ≡ length buffer = ap length s.bytes ∙ length_over (transcript (view f.session) f.session.line (ended (kept f) (take k input))) buffer (omega (arith, s.room, s.written)) in
+    let at : k ≡ length input - length rest = omega (arith, s.within, ap length is, length-drop k input) in
+    let none : drop (length b - w) (drop w b) ≡ [] = drop_all (length b - w) (drop w b) (omega (arith, length-drop w b)) in
+    let back : put_mid w (length b - w) b b' ≡ b = ap (λ l. take w b ++ (b' ++ l)) none ∙ ap (λ l. take w b ++ l) (append-nil b' ∙ same) ∙ take-append-drop w b in
+    let fed = stops f g input buffer b k w s (λ h. omega (arith, short, len, all, s.room)) in
+    subst (λ x. Fed f x input buffer (put_mid w (length b - w) b b') (record { «read» = length input - length rest; written = w })) (sym same_feed)
+    (subst (λ x. Fed f g input buffer x (record { «read» = length input - length rest; written = w })) (sym back) (subst (λ x. Fed f g input buffer b (record { «read» = x; written = w })) at fed))
+
+-- the rest after a line feed is shorter
+pub cut_shorter : (xs ys : List ℕ) → after 10 xs ≡ Some ys → length ys < length xs
+cut_shorter xs ys e = omega (arith, ap length (cut_joined xs ys e) ∙ length-append (before 10 xs) (10 ∷ ys))
 
 module _ (f g : Feed) (input buffer buffer' : List ℕ) (k w : ℕ) (s : Sofar f g input buffer buffer' k w) (part : List ℕ) (is : part ≡ before 10 (drop k input)) where
   abbrev sofar : List (List ℕ)
@@ -181,6 +219,10 @@ module _ (f g : Feed) (input buffer buffer' : List ℕ) (k w : ℕ) (s : Sofar f
 
     taken : take (k + (length part + 1)) input ≡ take k input ++ (part ++ (10 ∷ []))
     taken = take_on k (length part + 1) input ∙ ap (λ l. take k input ++ l) (ap (take (length part + 1)) joined ∙ front)
+
+    pub rest_after : ys ≡ drop (k + (length part + 1)) input
+    rest_after =
+        sym (sym (drop-drop (length part + 1) k input) ∙ ap (drop (length part + 1)) (joined ∙ sym (append_assoc part (10 ∷ []) ys)) ∙ drop_at (part ++ (10 ∷ [])) ys (length part + 1) (length_push part 10))
 
     no : (ended q part ≡ []) × (unended q part ≡ q ++ part)
     no = (ap (ended q) is ∙ (none_ended q (drop k input)).0, ap (unended q) is ∙ (none_ended q (drop k input)).1 ∙ ap (λ l. q ++ l) (sym is))
@@ -232,7 +274,7 @@ module _ (f g : Feed) (input buffer buffer' : List ℕ) (k w : ℕ) (s : Sofar f
 -- the end of an input
 pub none_begun : (f : Feed) (buffer : List ℕ) (r : Result ℕ (Refusal × ℕ)) (line : List ℕ) → line ≡ [] → r ≡ Ok 0 → Finished f f line buffer buffer r
 none_begun f buffer r [] e ok = (refl, refl, ok)
-none_begun f buffer r (b ∷ bs) e ok = absurd (let z : ◌≡◌ {A = ℕ} 0 1 = cc in omega arith)
+none_begun f buffer r (b ∷ bs) e ok = cc
 
 pub some_begun : (f f' : Feed) (buffer buffer' : List ℕ) (r : Result ℕ (Refusal × ℕ)) (line : List ℕ) → (length line ≡ 0 → ⊥) → kept f' ≡ [] → Answered (view f.session) (view f'.session) f.session.line f'.session.line line buffer buffer' r → Finished f f' line buffer buffer' r
 some_begun f f' buffer buffer' r [] some none a = absurd (some refl)

@@ -1,8 +1,8 @@
 -- Bytes written over a buffer, one part after another. Assumes nothing.
-use Rattle.std.proofs.Common.{◌≡◌, ℕ, ◌+◌, ◌*◌, ◌<◌, ◌≤◌, List, [], ◌∷◌, ◌++◌, map, length, get_or, take, sym, refl, ap, ◌∙◌, append_assoc, append-nil, one-add, arith}
-use Rattle.std.proofs.lemmas.List.{map_more, take_all, take-append-drop}
+use Rattle.std.proofs.Common.{◌≡◌, ℕ, ◌+◌, ◌-◌, ◌*◌, ◌<◌, ◌≤◌, List, [], ◌∷◌, ◌++◌, map, length, get_or, take, drop, sym, refl, ap, ◌∙◌, append_assoc, append-nil, one-add, arith}
+use Rattle.std.proofs.lemmas.List.{map_more, take_all, take-append-drop, drop-take, drop-drop}
 use Rattle.text.specs.Words.{spaced_on}
-use Rattle.text.specs.Writes.{put_at}
+use Rattle.text.specs.Writes.{over, put_at}
 use Rattle.text.proofs.WriteLaws.{over_put, put_then, place_then}
 use Rattle.session.specs.Replies.{field_text, reply_line, Spelt}
 use Rattle.session.specs.declared.replies.Field.{Field}
@@ -60,3 +60,13 @@ spelt letter fields out out₁ out' out'' i at r long first_byte all b next plac
       count = place_then 1 at r (first fields i) (10 ∷ []) b.place place ∙ ap (λ l. 1 + length l) text ∙ one-add _;
       short = omega (arith, b.short, b.within, b.few);
     }
+
+-- bytes written over the first 96 of a buffer are written over the buffer
+pub over_chunk : (t b : List ℕ) → length t ≤ 96 → over t (take 96 b) ++ drop 96 b ≡ over t b
+over_chunk t b h =
+    let n = length t in
+    let m = 96 - n in
+    let e : n + m ≡ 96 = omega arith in
+    let front : drop n (take 96 b) ≡ take m (drop n b) = ap (λ k. drop n (take k b)) (sym e) ∙ drop-take n m b in
+    let back : drop 96 b ≡ drop m (drop n b) = sym (drop-drop m n b ∙ ap (λ k. drop k b) e) in
+    append_assoc t (drop n (take 96 b)) (drop 96 b) ∙ ap (λ l. t ++ (l ++ drop 96 b)) front ∙ ap (λ l. t ++ (take m (drop n b) ++ l)) back ∙ ap (λ l. t ++ l) (take-append-drop m (drop n b))

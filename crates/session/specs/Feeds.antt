@@ -1,5 +1,5 @@
 -- Input that comes in pieces: the lines in it, and the replies to all of them. Assumes nothing.
-use Rattle.std.specs.Prelude.{◌≡◌, ℕ, ◌+◌, ◌<◌, ◌≤◌, cond, List, [], ◌∷◌, ◌++◌, length, take, Ok, Result, ◌==◌, ◌≢◌}
+use Rattle.std.specs.Prelude.{◌≡◌, ℕ, ◌+◌, ◌<◌, ◌≤◌, cond, List, [], ◌∷◌, ◌++◌, length, take, Some, None, Ok, Option, Result, ◌==◌, ◌≢◌}
 use Rattle.std.specs.List.{AllByRecursion}
 use Rattle.plan.specs.declared.refusals.Refusal.{Refusal}
 use Rattle.text.specs.Texts.{written}
@@ -48,6 +48,11 @@ pub record LineEnded (f f' : Feed) (line buffer buffer' : List ℕ) (r : ℕ) : 
   pub written : r ≡ length (reply_to (view f.session) line (next_line f.session.line))
   pub room : r ≤ 96
   pub bytes : buffer' ≡ over (reply_to (view f.session) line (next_line f.session.line)) buffer
+
+-- A line ended by its last part, where the buffer may hold any reply; else nothing changes.
+abbrev pub EndsLine : Feed → Feed → List ℕ → List ℕ → List ℕ → Option ℕ → Type 0
+EndsLine f f' part buffer buffer' None = (length buffer < 96) × (f' ≡ f) × (buffer' ≡ buffer)
+EndsLine f f' part buffer buffer' (Some r) = (96 ≤ length buffer) × LineEnded f f' (kept f ++ part) buffer buffer' r
 
 -- A feed has read the first bytes of an input: it has answered the lines that they end, in their order, and written
 -- the replies at the front of a buffer. It stops before the end of the input only where a reply has been written or

@@ -1,6 +1,6 @@
 // Lines of an input, answered as they end.
 ghost use Rattle.std.specs.Prelude.{◌≡◌, ◌≤◌, [], ◌++◌, length};
-ghost use Rattle.session.specs.Feeds.{Fed, Finished, LineEnded, LinesPart, PiecesJoin, kept};
+ghost use Rattle.session.specs.Feeds.{EndsLine, Fed, Finished, LinesPart, PiecesJoin, kept};
 ghost use Rattle.session.specs.Sessions.{told_line};
 ghost use Rattle.session.specs.Turns.{view};
 ghost use Rattle.session.specs.Turns.State.{waiting};
@@ -25,18 +25,18 @@ impl Feed {
         }
     }
 
-    // Ends a line with its last part, and writes the reply to it at the front of the buffer.
-    fn end_line(&mut self, part: &[u8], buffer: &mut [u8]) -> usize
-        requires { 96 ≤ length buffer.old }
-        ensures { LineEnded self.old self.new (kept self.old ++ part.now) buffer.old buffer.new result }
+    // Ends a line with its last part, and writes the reply to it at the front of the buffer, if it may hold any reply.
+    fn end_line(&mut self, part: &[u8], buffer: &mut [u8]) -> Option<usize>
+        ensures { EndsLine self.old self.new part.now buffer.old buffer.new result }
     {
+        let out = buffer.first_chunk_mut::<REPLY_ROOM>()?;
         if self.begun.as_bytes().is_empty() {
-            return self.session.answer(part, buffer).unwrap_or(0);
+            return Some(self.session.reply(part, out));
         }
         self.begun.put(part);
         let line = self.begun;
         self.begun = Text::new();
-        self.session.answer(line.as_bytes(), buffer).unwrap_or(0)
+        Some(self.session.reply(line.as_bytes(), out))
     }
 
     // Reads an input and answers each line that it ends, until it is read or the buffer may not hold another reply.
@@ -44,23 +44,22 @@ impl Feed {
     pub fn feed(&mut self, input: &[u8], buffer: &mut [u8]) -> Progress
         ensures { Fed self.old self.new input.now buffer.old buffer.new result }
     {
-        let mut read = 0;
+        let mut rest = input;
         let mut written = 0;
-        while read < input.len() {
-            let (part, after) = cut(&input[read..], b'\n');
-            if after.is_none() {
-                self.begun.put(part);
-                return Progress {
-                    read: input.len(),
-                    written,
-                };
-            }
-            if buffer.len() - written < REPLY_ROOM {
+        loop {
+            let (part, after) = cut(rest, b'\n');
+            let Some(after) = after else {
                 break;
-            }
-            written += self.end_line(part, &mut buffer[written..]);
-            read += part.len() + 1;
+            };
+            let Some(n) = self.end_line(part, &mut buffer[written..]) else {
+                let read = input.len() - rest.len();
+                return Progress { read, written };
+            };
+            written += n;
+            rest = after;
         }
+        self.begun.put(rest);
+        let read = input.len();
         Progress { read, written }
     }
 

@@ -4,7 +4,7 @@ ghost use Rattle.session.specs.Replies.{Spelt, answer_line, call_letter, field_t
 ghost use Rattle.text.specs.Writes.{put_at};
 
 use super::Field;
-use crate::turns::Answer;
+use crate::turns::{Answer, REPLY_ROOM};
 use plan::refusals::{Layer, Refusal};
 use plan::verdicts::Verdict;
 use stand::records::{Call, Reply};
@@ -92,9 +92,8 @@ fn layer_letter(layer: Layer) -> u8
 }
 
 // Writes a letter, fields and a line feed, and says how long that is.
-fn spell(out: &mut [u8], letter: u8, fields: &[Field]) -> usize
-    requires few { length fields.now ≤ 8 }
-    requires room { 96 ≤ length out.old }
+fn spell(out: &mut [u8; REPLY_ROOM], letter: u8, fields: &[Field]) -> usize
+    requires { length fields.now ≤ 8 }
     ensures { Spelt (reply_line letter fields.now) out.old out.new result }
 {
     let mut at = put_byte(out, 0, letter);
@@ -105,8 +104,7 @@ fn spell(out: &mut [u8], letter: u8, fields: &[Field]) -> usize
 }
 
 // Writes the reply to a command that is not refused.
-pub fn spell_answer(out: &mut [u8], answer: Answer) -> usize
-    requires { 96 ≤ length out.old }
+pub fn spell_answer(out: &mut [u8; REPLY_ROOM], answer: Answer) -> usize
     ensures { Spelt (answer_line answer) out.old out.new result }
 {
     match answer {
@@ -130,8 +128,7 @@ pub fn spell_answer(out: &mut [u8], answer: Answer) -> usize
 }
 
 // Writes the reply to a refused line.
-pub fn spell_refusal(out: &mut [u8], refusal: Refusal, line: u32) -> usize
-    requires { 96 ≤ length out.old }
+pub fn spell_refusal(out: &mut [u8; REPLY_ROOM], refusal: Refusal, line: u32) -> usize
     ensures { Spelt (refusal_line refusal line) out.old out.new result }
 {
     spell(

@@ -1,34 +1,35 @@
-use Rattle.std.proofs.Common.{◌≡◌, ℕ, true, false, List, ◌++◌, is_some, Some, None, Option, sym, refl, ap, ◌∙◌, subst, arith, Bor}
-use Rattle.std.proofs.lemmas.List.{take_rest}
-use Rattle.std.proofs.lemmas.Bool.{both_ways}
+use Rattle.std.proofs.Common.{◌≡◌, ◌-◌, ◌≤◌, ◌++◌, length, drop, Some, None, sym, refl, ap, ◌∙◌, subst, arith}
+use Rattle.std.proofs.lemmas.List.{take_rest, length-drop}
 use Rattle.std.specs.Option.{option_map}
 use Rattle.text.specs.Cuts.{before, after}
 use Rattle.session.specs.Feeds.{LineEnded, kept}
-use Rattle.session.proofs.Feeding.{stops, rest_kept, line_fed}
+use Rattle.session.proofs.Feeding.{cut_shorter, cut_whole, line_fed, rest_after, rest_kept, stopped}
 use Rattle.session.proofs.feeds.Feed.feed.Goals as goal
 
-gone : (o : Option (Bor (List ℕ))) → is_some o ≡ false → option_map (λ x. x.now) o ≡ None
-gone None e = refl
-gone (Some x) e = absurd (both_ways true e refl)
+pub returns : goal.returns
+returns c =
+    let at = c.loop-after.invariant in
+    let none : after 10 (drop at.0 c.args.input.now) ≡ None = ap (after 10) (sym at.1) ∙ sym c.cut.ensures.back ∙ ap (option_map (λ x. x.now)) c.in_default.is in
+    rest_kept _ _ _ _ _ _ _ at.2 c.loop-after.rest.now (at.1 ∙ sym (cut_whole _ none)) _ none refl refl c.put.ensures
 
-there : (o : Option (Bor (List ℕ))) → is_some o ≡ true → (ys : List ℕ) × (option_map (λ x. x.now) o ≡ Some ys)
-there None e = absurd (both_ways false refl e)
-there (Some x) e = (x.now, refl)
+pub returns-in_default-end_line : goal.returns-in_default-end_line
+returns-in_default-end_line c =
+    let at = c.loop-after.invariant in
+    let e = c.in_default-end_line.ensures in
+    stopped _ _ _ _ _ _ _ c.loop-after.rest.now at.0 _ at.2 at.1 (omega (arith, e.0, ap length e.2)) e.1 (e.2 ∙ take_rest c.loop-after.buffer c.loop-after.written)
 
-pub returns-then-is_none : goal.returns-then-is_none
-returns-then-is_none c =
-    let rest = take_rest c.args.input.now c.loop-read.read in
-    rest_kept _ _ _ _ _ _ _ c.loop-read.invariant _ (c.cut.ensures.front ∙ ap (before 10) rest) _ (sym (c.cut.ensures.back ∙ ap (after 10) rest) ∙ gone _ c.if-is_none.ensures) refl refl c.put.ensures
+pub loop-after-smaller : goal.loop-after-smaller
+loop-after-smaller c = cut_shorter _ _ (sym c.cut.ensures.back ∙ ap (option_map (λ x. x.now)) c.in-Some.is)
 
-pub returns-after-loop-read : goal.returns-after-loop-read
-returns-after-loop-read c = stops _ _ _ _ _ _ _ c.loop-read.invariant (λ h. absurd (omega (arith, c.loop-read-test.false)))
-
-pub returns-then-buffer-written-lt-REPLY_ROOM : goal.returns-then-buffer-written-lt-REPLY_ROOM
-returns-then-buffer-written-lt-REPLY_ROOM c = stops _ _ _ _ _ _ _ c.loop-read.invariant (λ h. omega (arith, c.if-buffer-written-lt-REPLY_ROOM.true, c.loop-read.auto.buffer, c.loop-read.invariant.room))
-
-pub loop-read-preserved : goal.loop-read-preserved
-loop-read-preserved c =
-    let rest = take_rest c.args.input.now c.loop-read.read in
-    let room = take_rest c.loop-read.buffer c.loop-read.written in
-    let some = there _ c.if-is_none.ensures in
-    line_fed _ _ _ _ _ _ _ c.loop-read.invariant _ (c.cut.ensures.front ∙ ap (before 10) rest) _ some.0 _ _ (sym (c.cut.ensures.back ∙ ap (after 10) rest) ∙ some.1) (subst (λ b. LineEnded c.loop-read.self c.end_line-written.new.self (kept c.loop-read.self ++ c.cut.result.0.now) b c.end_line-written.new.buffer c.end_line-written.result) room c.end_line-written.ensures) (omega (arith, c.if-buffer-written-lt-REPLY_ROOM.false))
+pub loop-after-preserved : goal.loop-after-preserved
+loop-after-preserved c =
+    let at = c.loop-after.invariant in
+    let e = c.in-Some-end_line.ensures in
+    let b = c.loop-after.buffer in
+    let w = c.loop-after.written in
+    let room = take_rest b w in
+    let is = c.cut.ensures.front ∙ ap (before 10) at.1 in
+    let some = ap (after 10) (sym at.1) ∙ sym c.cut.ensures.back ∙ ap (option_map (λ x. x.now)) c.in-Some.is in
+    let inside : 96 ≤ length b - w = omega (arith, e.0, ap length room, length-drop w b) in
+    let ended = subst (λ x. LineEnded c.loop-after.self c.end_line.new.self (kept c.loop-after.self ++ c.cut.result.0.now) x c.end_line.new.buffer c.in-Some-end_line.n) room e.1 in
+    (_, rest_after _ _ _ _ _ _ _ at.2 _ is _ _ _ _ some ended inside, line_fed _ _ _ _ _ _ _ at.2 _ is _ _ _ _ some ended inside)
