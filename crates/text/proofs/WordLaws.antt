@@ -1,11 +1,10 @@
 -- The words of a line: the first of them, and what they are. Assumes nothing.
-use Rattle.std.proofs.Common.{◌≡◌, ℕ, ◌<◌, true, false, cond, eqb, List, [], ◌∷◌, length, Some, sym, refl, ap, ◌∙◌, inl, inr, arith, Bor}
+use Rattle.std.proofs.Common.{◌≡◌, ℕ, ◌<◌, true, false, cond, eqb, List, [], ◌∷◌, length, Some, Option, sym, refl, ap, ◌∙◌, inl, inr, arith, Bor}
 use Rattle.std.specs.List.{AllByRecursion}
 use Rattle.std.proofs.lemmas.Bool.{eqb-true, eqb-false, cases_Bool}
 use Rattle.text.specs.Cuts.{before, after}
-use Rattle.text.specs.Readers.{words_in, left}
-use Rattle.std.specs.Option.{option_map}
-use Rattle.text.specs.declared.words.Reader.{Reader}
+use Rattle.text.specs.Readers.{words_in}
+use Rattle.std.specs.Option.{option_copied}
 use Rattle.text.specs.Words.{with_first, words, spaced_on, spaced, Parts}
 
 -- the first word, and the others
@@ -53,6 +52,6 @@ words_parts [] = record { some = omega arith; joined = refl; apart = (tt, tt) }
 words_parts (c ∷ cs) =
     elim (cases_Bool (eqb c 32)) [ inl e ↦ rw e (parts_space c cs (eqb-true c 32 e) (words_parts cs)) | inr e ↦ rw e (parts_first c cs (eqb-false c 32 e) (words_parts cs)) ]
 
--- a reader that has xs left
-pub left_cut : (r : Reader) (xs : Bor (List ℕ)) → r.rest ≡ Some xs → left r ≡ before 32 xs.now ∷ words_in (after 32 xs.now)
-left_cut r xs e = ap (λ o. words_in (option_map (λ x. x.now) o)) e ∙ words_cut xs.now
+-- what is left after a cut of xs
+pub left_cut : (rest : Option (Bor (List ℕ))) (xs : Bor (List ℕ)) → rest ≡ Some xs → words_in (option_copied rest) ≡ before 32 xs.now ∷ words_in (after 32 xs.now)
+left_cut rest xs e = ap (λ o. words_in (option_copied o)) e ∙ words_cut xs.now
