@@ -1,10 +1,9 @@
 -- The words of a line: the first of them, and what they are. Assumes nothing.
-use Rattle.std.proofs.Common.{◌≡◌, ℕ, ◌<◌, true, false, cond, eqb, List, [], ◌∷◌, length, Some, Option, sym, refl, ap, ◌∙◌, inl, inr, arith, Bor}
+use Rattle.std.proofs.Common.{◌≡◌, ℕ, ◌<◌, true, false, cond, eqb, List, [], ◌∷◌, length, Some, sym, refl, ap, ◌∙◌, inl, inr, arith}
 use Rattle.std.specs.List.{AllByRecursion}
 use Rattle.std.proofs.lemmas.Bool.{eqb-true, eqb-false, cases_Bool}
 use Rattle.text.specs.Cuts.{before, after}
 use Rattle.text.specs.Readers.{words_in}
-use Rattle.std.specs.Option.{option_copied}
 use Rattle.text.specs.Words.{with_first, words, spaced_on, spaced, Parts}
 
 -- the first word, and the others
@@ -51,7 +50,3 @@ pub words_parts : (xs : List ℕ) → Parts xs (words xs)
 words_parts [] = record { some = omega arith; joined = refl; apart = (tt, tt) }
 words_parts (c ∷ cs) =
     elim (cases_Bool (eqb c 32)) [ inl e ↦ rw e (parts_space c cs (eqb-true c 32 e) (words_parts cs)) | inr e ↦ rw e (parts_first c cs (eqb-false c 32 e) (words_parts cs)) ]
-
--- what is left after a cut of xs
-pub left_cut : (rest : Option (Bor (List ℕ))) (xs : Bor (List ℕ)) → rest ≡ Some xs → words_in (option_copied rest) ≡ before 32 xs.now ∷ words_in (after 32 xs.now)
-left_cut rest xs e = ap (λ o. words_in (option_copied o)) e ∙ words_cut xs.now

@@ -56,6 +56,7 @@ impl<'a> Reader<'a> {
     }
 
     // The next word, if there is one.
+    #[tactic(auto, using(crate::proofs::WordLaws::words_cut))]
     fn next_word(&mut self) -> Option<&'a [u8]>
         ensures word { option_copied result ≡ first_word self.old }
         ensures past { self.new ≡ past_word self.old }
@@ -106,6 +107,7 @@ impl<'a> Reader<'a> {
     }
 
     // That no word is left.
+    #[tactic(auto, using(crate::proofs::WordLaws::words_cut))]
     pub fn end(&self) -> Result<(), Unreadable>
         ensures { result ≡ end_at self.now }
     {

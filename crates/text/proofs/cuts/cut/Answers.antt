@@ -1,5 +1,4 @@
 use Rattle.std.proofs.Common.{sym, rules}
-use native.Mathlib.Nat.{sub-zero}
 use Rattle.std.proofs.lemmas.List.{take_rest}
 use Rattle.text.proofs.CutLaws.{cut_at, cut_none}
 use Rattle.text.proofs.cuts.cut.Goals as goal
