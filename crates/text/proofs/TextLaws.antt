@@ -19,6 +19,6 @@ added_fits text more short =
     let whole : 96 ≡ length text + (96 - length text) = omega arith in
     ap (λ n. take n (text ++ more)) whole ∙ take-append-add text more (96 - length text) ∙ ap (λ l. text ++ l) (sym (take_min (96 - length text) more))
 
--- a u32 has at most 10 digits, and at least one
+-- a u32 has at most 10 digits
 pub length_decimal_u32 : (n : ℕ) → n < 2 ^ 32 → length (decimal n) ≤ 10
 length_decimal_u32 n small = length-decimal-le 10 n (omega arith) (omega arith) (omega arith)

@@ -69,7 +69,6 @@ impl<'a> Reader<'a> {
 
     // What `read` makes of the next word, which is to be there and to read.
     fn read_by<T, F: FnOnce(&'a [u8]) -> Option<T>>(&mut self, read: F) -> Result<T, Unreadable>
-    where
         requires { F.IsAlwaysCallable read }
         ensures value { MatchOption (first_word self.old)
             (result ≡ Err (unreadable self.old.position))
