@@ -16,7 +16,7 @@ pub struct Unreadable {
 }
 
 // What is left of a line, from a word's start, and the position of that word.
-#[derive(Drop)]
+#[derive(Debug, Drop)]
 pub struct Reader<'a> {
     rest: Option<&'a [u8]>,
     position: u32,
