@@ -15,39 +15,33 @@ pub fn command(line: &[u8]) -> Result<Command, Unreadable>
     if line.len() > LONGEST {
         return Err(Unreadable { position: 1 });
     }
-    let mut words = Reader::of(line);
-    let command = match char::from(words.letter()?) {
+    let mut rest = Reader::of(line);
+    let command = match char::from(rest.letter()?) {
         'L' => Command::Line {
-            accept_intercept: words.decimal()?,
-            reject_intercept: words.decimal()?,
-            slope: words.decimal()?,
-            cut_size: words.whole()?,
-            cut_number: words.whole()?,
+            accept_intercept: rest.decimal()?,
+            reject_intercept: rest.decimal()?,
+            slope: rest.decimal()?,
+            cut_size: rest.whole()?,
+            cut_number: rest.whole()?,
         },
         'S' => Command::Single {
-            last_size: words.whole()?,
-            number: words.whole()?,
+            last_size: rest.whole()?,
+            number: rest.whole()?,
         },
         'C' => {
-            let size = words.whole()?;
-            let number = words.whole()?;
+            let size = rest.whole()?;
+            let number = rest.whole()?;
             Command::Cut { size, number }
         }
-        'O' => Command::Open {
-            bay: words.whole()?,
-        },
-        'R' => Command::Read {
-            bay: words.whole()?,
-        },
-        'X' => Command::Clear {
-            bay: words.whole()?,
-        },
+        'O' => Command::Open { bay: rest.whole()? },
+        'R' => Command::Read { bay: rest.whole()? },
+        'X' => Command::Clear { bay: rest.whole()? },
         'I' => Command::Take {
-            bay: words.whole()?,
-            count: words.whole()?,
+            bay: rest.whole()?,
+            count: rest.whole()?,
         },
         _ => return Err(Unreadable { position: 1 }),
     };
-    words.end()?;
+    rest.end()?;
     Ok(command)
 }
