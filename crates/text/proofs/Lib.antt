@@ -1,7 +1,6 @@
 pub mod CutLaws
 pub mod NumeralLaws
 pub mod WordLaws
-pub mod CommandLaws
 pub mod TextLaws
 pub mod WriteLaws
 mod Examples

@@ -1,5 +1,5 @@
 -- The commands that a line can write. Assumes nothing.
-use Rattle.std.specs.Prelude.{ℕ, ◌+◌, cond, List, [], ◌∷◌, length, Some, None, Ok, Err, Option, Result, ◌==◌, nat_le}
+use Rattle.std.specs.Prelude.{ℕ, ◌+◌, if◌then◌else◌, List, [], ◌∷◌, length, Some, None, Ok, Err, Option, Result, ◌==◌, nat_le}
 use Rattle.text.specs.Numerals.{whole_of, decimal_of}
 use Rattle.text.specs.Readers.{letter_of, unreadable}
 use Rattle.text.specs.Words.{words}
@@ -40,14 +40,14 @@ form ks made = Some (record { kinds = ks; made = made })
 -- by the letters L, S, C, O, R, X and I
 abbrev pub form_of : ℕ → Option Form
 form_of b =
-    cond (b == 76) (form (Decimal ∷ Decimal ∷ Decimal ∷ Whole ∷ Whole ∷ []) Line)
-    (cond (b == 83) (form (Whole ∷ Whole ∷ []) Single)
-    (cond (b == 67) (form (Whole ∷ Whole ∷ []) Cut)
-    (cond (b == 79) (form (Whole ∷ []) Open)
-    (cond (b == 82) (form (Whole ∷ []) Read)
-    (cond (b == 88) (form (Whole ∷ []) Clear)
-    (cond (b == 73) (form (Whole ∷ Whole ∷ []) Take)
-    None))))))
+    if b == 76 then form (Decimal ∷ Decimal ∷ Decimal ∷ Whole ∷ Whole ∷ []) Line
+    else if b == 83 then form (Whole ∷ Whole ∷ []) Single
+    else if b == 67 then form (Whole ∷ Whole ∷ []) Cut
+    else if b == 79 then form (Whole ∷ []) Open
+    else if b == 82 then form (Whole ∷ []) Read
+    else if b == 88 then form (Whole ∷ []) Clear
+    else if b == 73 then form (Whole ∷ Whole ∷ []) Take
+    else None
 
 -- the letter is the word at position 1, its numbers are the words after it
 abbrev pub formed : Option Form → List (List ℕ) → Result Command Unreadable
@@ -64,4 +64,4 @@ command_in (w ∷ ws) = lettered (letter_of w) ws
 
 -- a line is at most 80 bytes
 abbrev pub command_of : List ℕ → Result Command Unreadable
-command_of line = cond (nat_le (length line) 80) (command_in (words line)) (Err (unreadable 1))
+command_of line = if nat_le (length line) 80 then command_in (words line) else Err (unreadable 1)

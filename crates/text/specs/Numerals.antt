@@ -1,5 +1,5 @@
 -- The numbers that a word can write. Assumes nothing.
-use Rattle.std.specs.Prelude.{ℕ, ◌+◌, ◌-◌, ◌*◌, ◌^◌, Bool, cond, ◌&&◌, List, [], ◌∷◌, length, Some, None, Option, nat_le, nat_lt}
+use Rattle.std.specs.Prelude.{ℕ, ◌+◌, ◌-◌, ◌*◌, ◌^◌, Bool, if◌then◌else◌, ◌&&◌, List, [], ◌∷◌, length, Some, None, Option, nat_le, nat_lt}
 use Rattle.std.specs.Str.{all_ascii_digits}
 use Rattle.text.specs.Cuts.{before, after}
 
@@ -14,7 +14,7 @@ is_numeral k bs = nat_lt 0 (length bs) && (nat_le (length bs) k && all_ascii_dig
 
 -- the value of 1 to k digits
 abbrev pub numeral_of : ℕ → List ℕ → Option ℕ
-numeral_of k bs = cond (is_numeral k bs) (Some (value_after 0 bs)) None
+numeral_of k bs = if is_numeral k bs then Some (value_after 0 bs) else None
 
 -- a whole number: 1 to 7 digits
 abbrev pub whole_of : List ℕ → Option ℕ

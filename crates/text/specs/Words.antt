@@ -1,5 +1,5 @@
 -- The words of a line: what stands between its spaces. Assumes nothing.
-use Rattle.std.specs.Prelude.{◌≡◌, ℕ, ◌<◌, cond, List, [], ◌∷◌, ◌++◌, length, ◌==◌, ◌≢◌}
+use Rattle.std.specs.Prelude.{◌≡◌, ℕ, ◌<◌, if◌then◌else◌, List, [], ◌∷◌, ◌++◌, length, ◌==◌, ◌≢◌}
 use Rattle.std.specs.List.{AllByRecursion}
 
 -- c before the first of the words
@@ -10,7 +10,7 @@ with_first c (w ∷ ws) = (c ∷ w) ∷ ws
 -- n spaces part n + 1 words; a word may be empty
 abbrev pub words : List ℕ → List (List ℕ)
 words [] = [] ∷ []
-words (c ∷ cs) = cond (c == 32) ([] ∷ words cs) (with_first c (words cs))
+words (c ∷ cs) = if c == 32 then [] ∷ words cs else with_first c (words cs)
 
 -- the words joined by single spaces
 abbrev pub spaced_on : List (List ℕ) → List ℕ

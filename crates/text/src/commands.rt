@@ -1,5 +1,5 @@
 // The commands that a line can write.
-#[derive(Clone, Copy, Debug, PartialEq)]
+#[derive(Clone, Copy, Debug, PartialEq, Eq)]
 pub enum Command {
     Line {
         accept_intercept: u64,

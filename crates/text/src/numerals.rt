@@ -15,12 +15,12 @@ fn digits(word: &[u8], most: usize) -> Option<u32>
     if word.is_empty() || word.len() > most {
         return None;
     }
-    let mut n: u32 = 0;
+    let mut n = 0;
     for b in word {
-        if *b < b'0' || *b > b'9' {
-            return None;
+        match b {
+            b'0'..=b'9' => n = n * 10 + u32::from(*b - b'0'),
+            _ => return None,
         }
-        n = n * 10 + u32::from(*b - b'0');
     }
     Some(n)
 }
@@ -37,12 +37,9 @@ pub fn decimal(word: &[u8]) -> Option<u64>
     ensures { result ≡ decimal_of word.now }
 {
     let (front, back) = cut(word, b'.');
-    let n = digits(front, 4)?;
+    let units = u64::from(digits(front, 4)?) * 1_000_000;
     match back {
-        None => Some(u64::from(n) * 1_000_000),
-        Some(fraction) => {
-            let m = digits(fraction, 6)?;
-            Some(u64::from(n) * 1_000_000 + u64::from(m) * WORTH[fraction.len()])
-        }
+        None => Some(units),
+        Some(fraction) => Some(units + u64::from(digits(fraction, 6)?) * WORTH[fraction.len()]),
     }
 }

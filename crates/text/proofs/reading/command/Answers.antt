@@ -1,13 +1,13 @@
-use Rattle.std.proofs.Common.{sym, ap, ◌∙◌}
-use Rattle.text.specs.Commands.{form_of, formed}
-use Rattle.text.specs.Readers.{left}
-use Rattle.text.proofs.CommandLaws.{command_on}
+use Rattle.std.proofs.Common.{arith}
+use Rattle.std.proofs.lemmas.Grind.{common_steps}
 use Rattle.text.proofs.reading.command.Goals as goal
+use Rattle.text.proofs.reading.command.Goals.{in-L+in_ok-decimal-in-L+in_ok-decimal-in-L-2+in_ok-decimal-in-L-3+in_ok-whole-in-L+in_ok-whole-in-L-2, in-S+in_ok-whole-in-S+in_ok-whole-in-S-2, in-C+in_ok-size-in-C+in_ok-number-in-C, in-O+in_ok-whole-in-O, in-R+in_ok-whole-in-R, in-X+in_ok-whole-in-X, in-I+in_ok-whole-in-I+in_ok-whole-in-I-2}
 
-pub returns-in-L : goal.returns-in-L
-returns-in-L c =
-    let told = c.letter.ensures in
-    let b = c.in_ok-letter.letter in
-    let on = command_on c.args.line.now c.of-words.result c.letter.new.self c.letter.result b c.if-line-gt-LONGEST.false c.of-words.ensures.left c.of-words.ensures.position told.value told.rest c.in_ok-letter.was in
-    let letter = sym c.from.ensures ∙ c.in-L.is in
-    c.straight.ensures ∙ sym (on ∙ ap (λ n. formed (form_of n) (left c.letter.new.self)) letter)
+-- at the end each command is looked at by itself
+pub returns-in_err-end : goal.returns-in_err-end
+returns-in_err-end c =
+    elim c.match-from.branch [ in-L+in_ok-decimal-in-L+in_ok-decimal-in-L-2+in_ok-decimal-in-L-3+in_ok-whole-in-L+in_ok-whole-in-L-2 w ↦ grind (arith, common_steps) | in-S+in_ok-whole-in-S+in_ok-whole-in-S-2 w ↦ grind (arith, common_steps) | in-C+in_ok-size-in-C+in_ok-number-in-C w ↦ grind (arith, common_steps) | in-O+in_ok-whole-in-O w ↦ grind (arith, common_steps) | in-R+in_ok-whole-in-R w ↦ grind (arith, common_steps) | in-X+in_ok-whole-in-X w ↦ grind (arith, common_steps) | in-I+in_ok-whole-in-I+in_ok-whole-in-I-2 w ↦ grind (arith, common_steps) ]
+
+pub returns : goal.returns
+returns c =
+    elim c.match-from.branch [ in-L+in_ok-decimal-in-L+in_ok-decimal-in-L-2+in_ok-decimal-in-L-3+in_ok-whole-in-L+in_ok-whole-in-L-2 w ↦ grind (arith, common_steps) | in-S+in_ok-whole-in-S+in_ok-whole-in-S-2 w ↦ grind (arith, common_steps) | in-C+in_ok-size-in-C+in_ok-number-in-C w ↦ grind (arith, common_steps) | in-O+in_ok-whole-in-O w ↦ grind (arith, common_steps) | in-R+in_ok-whole-in-R w ↦ grind (arith, common_steps) | in-X+in_ok-whole-in-X w ↦ grind (arith, common_steps) | in-I+in_ok-whole-in-I+in_ok-whole-in-I-2 w ↦ grind (arith, common_steps) ]

@@ -1,6 +1,5 @@
-use Rattle.std.proofs.Common.{refl}
 use Rattle.text.proofs.WordLaws.{words_parts}
 use Rattle.text.proofs.words.Reader.of.Goals as goal
 
-pub returns : goal.returns
-returns c = record { left = refl; position = refl; parts = words_parts c.args.line.now }
+pub returns-clause-parts : goal.returns-clause-parts
+returns-clause-parts c = words_parts c.args.line.now
