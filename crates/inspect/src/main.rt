@@ -1,8 +1,6 @@
 // The inspection stand at a terminal or on a pipe: one reply line for each line of standard input.
 #![tactic(auto)]
 
-ghost use Rattle.std.specs.Prelude.{◌≤◌, length};
-
 use session::feeds::Feed;
 use std::io;
 use std::io::{ErrorKind, Read, Write};
@@ -11,15 +9,17 @@ use std::io::{ErrorKind, Read, Write};
 const BLOCK: usize = 65_536;
 
 // Answers the lines of a block and writes the replies before more is read.
-fn answer<W: Write>(feed: &mut Feed, block: &[u8], buffer: &mut [u8], out: &mut W) -> io::Result<()>
-    requires { 96 ≤ length buffer.old }
-{
-    let mut read = 0;
-    while read < block.len() {
-        let progress = feed.feed(&block[read..], buffer);
-        let written = progress.written;
-        out.write_all(&buffer[0..written])?;
-        read += progress.read;
+fn answer<W: Write>(
+    feed: &mut Feed,
+    block: &[u8],
+    buffer: &mut [u8; BLOCK],
+    out: &mut W,
+) -> io::Result<()> {
+    let mut rest = block;
+    while !rest.is_empty() {
+        let progress = feed.feed(rest, buffer);
+        out.write_all(&buffer[..progress.written])?;
+        rest = &rest[progress.read..];
     }
     Ok(())
 }
@@ -39,10 +39,10 @@ fn inspect(rt: &HostRuntime) -> anyhow::Result<()> {
         if n == 0 {
             break;
         }
-        answer(&mut feed, &input[0..n], &mut buffer, &mut stdout)?;
+        answer(&mut feed, &input[..n], &mut buffer, &mut stdout)?;
     }
     if let Ok(n) = feed.finish(&mut buffer) {
-        stdout.write_all(&buffer[0..n])?;
+        stdout.write_all(&buffer[..n])?;
     }
     Ok(())
 }

@@ -9,12 +9,11 @@ use Rattle.text.specs.Cuts.{before, after}
 use Rattle.text.specs.Readers.{unreadable}
 use Rattle.text.specs.Texts.{added}
 use Rattle.text.specs.Words.{words}
-use Rattle.text.proofs.TextLaws.{written_short}
 use Rattle.session.specs.Feeds.{Fed, Finished, LineEnded, ended, kept, unended, transcript, state_after, number_after}
 use Rattle.text.specs.Writes.{over}
 use Rattle.session.specs.Replies.{line_for, Spelt}
 use Rattle.session.proofs.Spelling.{over_chunk}
-use Rattle.session.specs.Sessions.{Answered, heard, obeyed, next_line, reply_to, told_line}
+use Rattle.session.specs.Sessions.{Answered, heard, obeyed, next_line, reply_to}
 use Rattle.session.specs.Turns.{State, view}
 use Rattle.session.specs.declared.feeds.Feed.{Feed}
 
@@ -152,7 +151,7 @@ stops f f' input buffer buffer' k w s stop = record {
   stops = stop;
   state = s.state;
   number = s.number;
-  left = sym (ap (take 96) (sym s.left) ∙ take_all 96 (kept f') (written_short f'.begun));
+  left = sym (ap (take 96) (sym s.left) ∙ take_all 96 (kept f') f'.short);
   room = s.room;
   written = s.written;
   bytes = s.bytes;

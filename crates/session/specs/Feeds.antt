@@ -2,7 +2,6 @@
 use Rattle.std.specs.Prelude.{◌≡◌, ℕ, ◌+◌, ◌<◌, ◌≤◌, cond, List, [], ◌∷◌, ◌++◌, length, take, Some, None, Ok, Option, Result, ◌==◌, ◌≢◌}
 use Rattle.std.specs.List.{AllByRecursion}
 use Rattle.plan.specs.declared.refusals.Refusal.{Refusal}
-use Rattle.text.specs.Texts.{written}
 use Rattle.text.specs.Writes.{over}
 use Rattle.session.specs.Sessions.{Answered, heard, next_line, reply_to}
 use Rattle.session.specs.Turns.{State, view}
@@ -12,7 +11,7 @@ use Rattle.session.specs.declared.feeds.Progress.{Progress}
 -- What is kept of a line that is not ended yet: its first 96 bytes, since a line of more than 80 is refused whatever
 -- follows.
 abbrev pub kept : Feed → List ℕ
-kept f = written f.begun
+kept f = f.begun
 
 abbrev pub kept_most : ℕ
 kept_most = 96

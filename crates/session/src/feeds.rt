@@ -1,4 +1,6 @@
 // Input that comes in pieces, cut into lines and answered line by line.
+ghost use Rattle.std.specs.Prelude.{◌≤◌, length};
+
 use crate::turns::Session;
 use text::Text;
 
@@ -9,6 +11,7 @@ mod lines;
 pub struct Feed {
     session: Session,
     begun: Text,
+    ghost short: { length begun ≤ 96 },
 }
 
 // How far a feed came: the bytes read, and those written.

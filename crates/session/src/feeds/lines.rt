@@ -8,6 +8,7 @@ ghost use Rattle.session.specs.Turns.State.{waiting};
 use super::{Feed, Progress};
 use crate::faults::RefusedLine;
 use crate::turns::{REPLY_ROOM, Session};
+use std::mem;
 use text::{Text, cut};
 
 impl Feed {
@@ -30,12 +31,11 @@ impl Feed {
         ensures { EndsLine self.old self.new part.now buffer.old buffer.new result }
     {
         let out = buffer.first_chunk_mut::<REPLY_ROOM>()?;
-        if self.begun.as_bytes().is_empty() {
+        if self.begun.is_empty() {
             return Some(self.session.reply(part, out));
         }
         self.begun.put(part);
-        let line = self.begun;
-        self.begun = Text::new();
+        let line = mem::replace(&mut self.begun, Text::new());
         Some(self.session.reply(line.as_bytes(), out))
     }
 
@@ -67,11 +67,10 @@ impl Feed {
     pub fn finish(&mut self, buffer: &mut [u8]) -> Result<usize, RefusedLine>
         ensures { Finished self.old self.new (kept self.old) buffer.old buffer.new (told_line result) }
     {
-        if self.begun.as_bytes().is_empty() {
+        if self.begun.is_empty() {
             return Ok(0);
         }
-        let line = self.begun;
-        self.begun = Text::new();
+        let line = mem::replace(&mut self.begun, Text::new());
         self.session.answer(line.as_bytes(), buffer)
     }
 }

@@ -1,7 +1,4 @@
-use Rattle.std.proofs.Common.{◌≡◌, [], ◌++◌, sym, ap, ◌∙◌}
-use Rattle.std.proofs.lemmas.List.{nil_from_length}
-use Rattle.std.proofs.lemmas.Bool.{eqb-true}
-use Rattle.text.specs.Texts.{written}
+use Rattle.std.proofs.Common.{◌++◌, sym, ap, ◌∙◌}
 use Rattle.session.specs.Sessions.{heard}
 use Rattle.session.specs.Turns.{view}
 use Rattle.session.proofs.Feeding.{line_ended, chunk_ended, same_heard}
@@ -13,7 +10,7 @@ returns-then-is_empty c =
     let part = c.args.part.now in
     let chunk = c.in_ok-out.ensures.cases in
     let e = c.reply.ensures in
-    let none : written f.begun ≡ [] = sym c.as_bytes.ensures ∙ nil_from_length _ (eqb-true _ 0 (sym c.if-is_empty.ensures)) in
+    let none = c.is_empty.ensures.0 c.if-is_empty.true in
     (chunk.enough, chunk_ended f _ _ c.args.buffer.now _ _ (line_ended f _ part _ _ _ _ (ap (λ l. heard (view f.session) (l ++ part)) (sym none)) none e.state e.number (rw chunk.same at e.spelt)))
 
 pub returns : goal.returns
@@ -21,6 +18,6 @@ returns c =
     let f = c.args.self.now in
     let chunk = c.in_ok-out.ensures.cases in
     let e = c.reply-2.ensures in
-    let whole = written f.begun ++ c.args.part.now in
-    let line = c.as_bytes-2.ensures ∙ c.put.ensures in
-    (chunk.enough, chunk_ended f _ _ c.args.buffer.now _ _ (line_ended f _ c.as_bytes-2.result.now whole _ _ _ (ap (heard (view f.session)) line ∙ same_heard (view f.session) whole) c.new-self.ensures e.state e.number (rw chunk.same at e.spelt)))
+    let whole = f.begun ++ c.args.part.now in
+    let line = c.as_bytes.ensures.bytes ∙ c.replace-line.ensures.value ∙ c.put.ensures in
+    (chunk.enough, chunk_ended f _ _ c.args.buffer.now _ _ (line_ended f _ c.as_bytes.result.now whole _ _ _ (ap (heard (view f.session)) line ∙ same_heard (view f.session) whole) (c.replace-line.ensures.after ∙ c.new.ensures) e.state e.number (rw chunk.same at e.spelt)))

@@ -1,5 +1,5 @@
-use Rattle.std.proofs.Common.{◌≡◌, ◌-◌, ◌≤◌, ◌++◌, length, drop, Some, None, sym, refl, ap, ◌∙◌, subst, arith}
-use Rattle.std.proofs.lemmas.List.{take_rest, length-drop}
+use Rattle.std.proofs.Common.{◌≡◌, ◌-◌, ◌≤◌, ◌++◌, length, drop, None, sym, refl, ap, ◌∙◌, subst, arith}
+use Rattle.std.proofs.lemmas.List.{take_rest, length-drop, length-take}
 use Rattle.std.specs.Option.{option_map}
 use Rattle.text.specs.Cuts.{before, after}
 use Rattle.session.specs.Feeds.{LineEnded, kept}
@@ -33,3 +33,6 @@ loop-after-preserved c =
     let inside : 96 ≤ length b - w = omega (arith, e.0, ap length room, length-drop w b) in
     let ended = subst (λ x. LineEnded c.loop-after.self c.end_line.new.self (kept c.loop-after.self ++ c.cut.result.0.now) x c.end_line.new.buffer c.in-Some-end_line.n) room e.1 in
     (_, rest_after _ _ _ _ _ _ _ at.2 _ is _ _ _ _ some ended inside, line_fed _ _ _ _ _ _ _ at.2 _ is _ _ _ _ some ended inside)
+
+pub invariant_of-self : goal.invariant_of-self
+invariant_of-self c = rw (c.put.ensures, length-take) (omega arith)
