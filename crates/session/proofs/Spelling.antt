@@ -1,6 +1,7 @@
 -- Bytes written over a buffer, one part after another. Assumes nothing.
-use Rattle.std.proofs.Common.{◌≡◌, ℕ, ◌+◌, ◌-◌, ◌*◌, ◌<◌, ◌≤◌, List, [], ◌∷◌, ◌++◌, map, length, get_or, take, drop, sym, refl, ap, ◌∙◌, append_assoc, append-nil, one-add, arith}
+use Rattle.std.proofs.Common.{◌≡◌, ℕ, ◌+◌, ◌-◌, ◌*◌, ◌/◌, ◌%◌, ◌<◌, ◌≤◌, List, [], ◌∷◌, ◌++◌, map, length, get_or, take, drop, decimal, sym, refl, ap, ◌∙◌, append_assoc, append-nil, one-add, arith}
 use Rattle.std.proofs.lemmas.List.{map_more, take_all, take-append-drop, drop-take, drop-drop}
+use Rattle.std.proofs.lemmas.Fmt.{decimal_digit, decimal_step}
 use Rattle.text.specs.Words.{spaced_on}
 use Rattle.text.specs.Writes.{over, put_at}
 use Rattle.text.proofs.WriteLaws.{over_put, put_then, place_then}
@@ -70,3 +71,7 @@ over_chunk t b h =
     let front : drop n (take 96 b) ≡ take m (drop n b) = ap (λ k. drop n (take k b)) (sym e) ∙ drop-take n m b in
     let back : drop 96 b ≡ drop m (drop n b) = sym (drop-drop m n b ∙ ap (λ k. drop k b) e) in
     append_assoc t (drop n (take 96 b)) (drop 96 b) ∙ ap (λ l. t ++ (l ++ drop 96 b)) front ∙ ap (λ l. t ++ (take m (drop n b) ++ l)) back ∙ ap (λ l. t ++ l) (take-append-drop m (drop n b))
+
+-- a number of two digits
+pub two_digits : (n : ℕ) → 10 ≤ n → n < 100 → decimal n ≡ (48 + n / 10) ∷ (48 + n % 10) ∷ []
+two_digits n many few = decimal_step n many (omega arith) ∙ ap (λ l. l ++ ((48 + n % 10) ∷ [])) (decimal_digit (n / 10) (omega arith))
