@@ -9,7 +9,7 @@ use plan::refusals::{Layer, Refusal};
 use stand::records::{BayFault, StandFault};
 use text::Unreadable;
 
-#[derive(Clone, Copy)]
+#[derive(Clone, Copy, Debug, PartialEq, Eq)]
 pub enum SessionFault {
     Number(NumberFault),
     Bay(BayFault),
@@ -24,7 +24,7 @@ pub enum SessionFault {
 }
 
 // A refused line: the fault, and the number of the line.
-#[derive(Clone, Copy)]
+#[derive(Clone, Copy, Debug, PartialEq, Eq)]
 pub struct RefusedLine {
     pub fault: SessionFault,
     pub line: u32,

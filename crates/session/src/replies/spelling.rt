@@ -1,4 +1,6 @@
-// How a reply line is written.
+// How a reply line is written: byte by byte into the buffer of the reply. As `Display` through a `Formatter`, and by way of
+// an `ArrayVec`, a reply took about four times as long. The buffer and the place in it stay two parameters: a struct of the
+// two would hold the loan of the buffer, which each clause would have to name as well.
 ghost use Rattle.std.specs.Prelude.{◌≡◌, ◌+◌, ◌<◌, ◌≤◌, [], ◌∷◌, length, decimal};
 ghost use Rattle.session.specs.Replies.{Spelt, answer_line, call_letter, field_text, layer_letter, refusal_line, reply_line, verdict_letter};
 ghost use Rattle.text.specs.Writes.{put_at};
@@ -20,7 +22,8 @@ fn put_byte(out: &mut [u8], at: usize, byte: u8) -> usize
     at + 1
 }
 
-// Writes a number of two digits or more at a place, and says the place after it.
+// Writes a number of two digits or more at a place, and says the place after it. Most have two: by the library alone a
+// whole line took an eighth longer, and the program lost to one in plain Rust.
 #[inline(never)]
 fn put_digits(out: &mut [u8], at: usize, n: u32) -> usize
     requires many { 10 ≤ n }
@@ -40,7 +43,7 @@ fn put_digits(out: &mut [u8], at: usize, n: u32) -> usize
     end
 }
 
-// The same for any number. Most have one digit or two: with the library's printing for all, a line takes a third longer.
+// The same for any number, with no call for one of one digit.
 fn put_number(out: &mut [u8], at: usize, n: u32) -> usize
     requires { at + length (decimal n) ≤ length out.old }
     ensures bytes { out.new ≡ put_at out.old at (decimal n) }

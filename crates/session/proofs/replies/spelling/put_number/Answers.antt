@@ -1,7 +1,5 @@
-use Rattle.std.proofs.Common.{◌+◌, ◌/◌, ◌%◌, ◌≤◌, [], ◌∷◌, length, sym, ap, ◌∙◌, arith}
+use Rattle.std.proofs.Common.{◌+◌, length, sym, ap, ◌∙◌, arith}
 use Rattle.std.proofs.lemmas.Fmt.{decimal_digit}
-use Rattle.session.proofs.Spelling.{two_digits}
-use Rattle.text.proofs.WriteLaws.{length_put, place_then, put_then}
 use Rattle.text.specs.Writes.{put_at}
 use Rattle.session.proofs.replies.spelling.put_number.Goals as goal
 
