@@ -41,7 +41,7 @@ put_rows-requires g c =
     let b = g.P.Plan.meaning c.args.plan.now in
     let rows = c.extent_of-rows.result.rows in
     let room : 8 + 2 * rows ≤ length c.args.buffer.now = c.if-buffer-needed.false in
-    let same = length_put c.args.buffer.now 0 (header c.greatest_count-kind.result rows) (omega arith) in
+    let same = length_put c.args.buffer.now 0 (header c.GREATEST-kind.result rows) (omega arith) in
     omega (arith, room, c.extent_of-rows.ensures.rows, c.put-start.ensures.place, length_rows (sheet m b), ap length c.put-start.ensures.bytes ∙ same)
 
 pub returns : goal.returns
@@ -51,6 +51,6 @@ returns g c =
     let is = c.extent_of-rows.ensures.rows in
     let room : 8 + 2 * length (sheet m b) ≤ length c.args.buffer.now = omega (arith, c.if-buffer-needed.false, is) in
     record {
-      drawn = drawn m b _ _ _ _ _ room c.put-start.ensures.place (begun m b c.args.buffer.now _ c.greatest_count-kind.result _ c.greatest_count-kind.ensures is c.put-start.ensures.bytes) c.put_rows.ensures.bytes c.put_rows.ensures.place;
+      drawn = drawn m b _ _ _ _ _ room c.put-start.ensures.place (begun m b c.args.buffer.now _ c.GREATEST-kind.result _ c.GREATEST-kind.ensures is c.put-start.ensures.bytes) c.put_rows.ensures.bytes c.put_rows.ensures.place;
       series = sheet_drawn m g.K.Item.score g.met.K.Item.kind b (g.met.P.Plan.lawful c.args.plan.now);
     }

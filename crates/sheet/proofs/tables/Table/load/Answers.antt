@@ -11,7 +11,7 @@ returns-in_err-rows_checked g c =
     let m = g.K.Item.GREATEST in
     let bytes = c.args.bytes.now in
     let p = err_from_is_err_and c.from_residual.result c.from_residual.ensures.1 in
-    let fault = ap (λ k. fault_in k bytes) (sym c.greatest_count.ensures) ∙ c.in_err-rows_checked.ensures in
+    let fault = ap (λ k. fault_in k bytes) (sym c.GREATEST.ensures) ∙ c.in_err-rows_checked.ensures in
     let d = refused_for m bytes c.args.self.now _ _ (p.1 ∙ ap Err p.2) fault in
     record { loaded = d.0; exact = exact m bytes (c.type_inv.bytes 6).fits; redrawn = d.1 }
 
@@ -20,14 +20,14 @@ returns-in_err-rows g c =
     let m = g.K.Item.GREATEST in
     let bytes = c.args.bytes.now in
     let p = err_from_is_err_and c.from_residual-in_err-rows.result c.from_residual-in_err-rows.ensures.1 in
-    let none = ap (λ k. fault_in k bytes) (sym c.greatest_count.ensures) ∙ c.in_ok-rows_checked.ensures.0 in
+    let none = ap (λ k. fault_in k bytes) (sym c.GREATEST.ensures) ∙ c.in_ok-rows_checked.ensures.0 in
     let d = no_memory m bytes c.args.self.now _ (p.1 ∙ ap Err p.2) none in
     record { loaded = d.0; exact = exact m bytes (c.type_inv.bytes 6).fits; redrawn = d.1 }
 
 pub overflow_cast-count : goal.overflow_cast-count
 overflow_cast-count g c =
     let bytes = c.args.bytes.now in
-    let none = ap (λ k. fault_in k bytes) (sym c.greatest_count.ensures) ∙ c.in_ok-rows_checked.ensures.0 in
+    let none = ap (λ k. fault_in k bytes) (sym c.GREATEST.ensures) ∙ c.in_ok-rows_checked.ensures.0 in
     let most = rows_most _ bytes (fine_from _ bytes none) in
     let items = ap length (c.in_ok-rows.ensures ∙ ap rows_of c.in_ok-rows_checked.ensures.1) in
     let few : c.len-count.result ≤ 4096 = omega (arith, c.len-count.ensures, c.in_ok-rows.rows.ok.0) in
@@ -39,7 +39,7 @@ invariant_of-drop g c =
     let bytes = c.args.bytes.now in
     let left = vec_items c.pop.new.self in
     let last = c.in-Some.last in
-    let none = ap (λ k. fault_in k bytes) (sym c.greatest_count.ensures) ∙ c.in_ok-rows_checked.ensures.0 in
+    let none = ap (λ k. fault_in k bytes) (sym c.GREATEST.ensures) ∙ c.in_ok-rows_checked.ensures.0 in
     let all = sym c.in-Some.ensures.items ∙ c.in_ok-rows.ensures ∙ ap rows_of c.in_ok-rows_checked.ensures.1 in
     let closing = to_z-of_z w32 c.closing_of.result (record { sfits = c.closing_of.type_inv }) ∙ c.closing_of.ensures in
     let bounds = keeps_closing m bytes none left last all in
@@ -56,7 +56,7 @@ returns-in-Some g c =
     let bytes = c.args.bytes.now in
     let left = vec_items c.pop.new.self in
     let last = c.in-Some.last in
-    let none = ap (λ k. fault_in k bytes) (sym c.greatest_count.ensures) ∙ c.in_ok-rows_checked.ensures.0 in
+    let none = ap (λ k. fault_in k bytes) (sym c.GREATEST.ensures) ∙ c.in_ok-rows_checked.ensures.0 in
     let all = sym c.in-Some.ensures.items ∙ c.in_ok-rows.ensures ∙ ap rows_of c.in_ok-rows_checked.ensures.1 in
     let closing = to_z-of_z w32 c.closing_of.result (record { sfits = c.closing_of.type_inv }) ∙ c.closing_of.ensures in
     let number : c.len-count.result ≡ length left + 1 = omega (arith, c.len-count.ensures, c.in-Some.ensures.len, c.pop.new.self.ok.0) in
@@ -66,7 +66,7 @@ returns-in-Some g c =
 pub returns-in_default : goal.returns-in_default
 returns-in_default g c =
     let bytes = c.args.bytes.now in
-    let none = ap (λ k. fault_in k bytes) (sym c.greatest_count.ensures) ∙ c.in_ok-rows_checked.ensures.0 in
+    let none = ap (λ k. fault_in k bytes) (sym c.GREATEST.ensures) ∙ c.in_ok-rows_checked.ensures.0 in
     let some = rows_some _ bytes (fine_from _ bytes none) in
     let items = ap length (c.in_ok-rows.ensures ∙ ap rows_of c.in_ok-rows_checked.ensures.1) in
     absurd (omega (arith, c.in_default.ensures.cases.0, c.in_ok-rows.rows.ok.0))
