@@ -25,15 +25,10 @@ impl Table {
 fn pair_of(row: Row) -> (i32, i32)
     ensures { result ≡ pair_of row }
 {
-    let acceptance = match row.acceptance {
-        Some(number) => i32::from(number),
-        None => -1,
-    };
-    let rejection = match row.rejection {
-        Some(number) => i32::from(number),
-        None => 254,
-    };
-    (acceptance, rejection)
+    (
+        row.acceptance.map_or(-1, i32::from),
+        row.rejection.map_or(254, i32::from),
+    )
 }
 
 impl Plan for Table {

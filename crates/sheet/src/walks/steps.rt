@@ -1,44 +1,44 @@
 // The steps of a walk.
-ghost use Rattle.std.specs.Prelude.{◌≡◌, ◌<◌, ◌≤◌, max, Some as some};
-ghost use Rattle.plan.specs.Limits.{max_count};
-ghost use Rattle.sheet.specs.Lefts.{Stepped};
-ghost use Rattle.sheet.specs.Sheets.{row_over};
-ghost use Rattle.sheet.specs.Spans.{past, whole, next_span, first};
+ghost use Rattle.std.specs.Prelude.{◌≡◌, ◌<◌, ◌≤◌, max};
+ghost use Rattle.std.specs.Iterator.{YieldsFirst, item_count};
+ghost use Rattle.sheet.specs.Lefts.{left};
+ghost use Rattle.sheet.specs.Sheets.{lines, row_over};
+ghost use Rattle.sheet.specs.Spans.{past, whole, next_span};
 
 use super::Walk;
 use crate::rows::{Row, Span};
 use plan::items::Item;
 use plan::plans::Plan;
+use std::marker::PhantomData;
 
 // The least count that a pair with this acceptance number does not accept.
 fn past(number: i32) -> u32
     ensures { result ≡ past number }
 {
-    if number < 0 { 0 } else { number as u32 + 1 }
+    u32::try_from(number).map_or(0, |n| n + 1)
 }
 
 // The least count that a pair with this rejection number rejects.
 fn whole(number: i32) -> u32
     ensures { result ≡ whole number }
 {
-    if number < 0 { 0 } else { number as u32 }
+    u32::try_from(number).unwrap_or(0)
 }
 
 // The counts reached by one more item, if a pair leaves a count live.
-fn reached_next(reached: Span, pair: (i32, i32), greatest: u32) -> Option<Span>
-    requires { greatest ≤ max_count }
-    ensures { result ≡ next_span greatest pair reached }
+fn reached_next<K: Item>(reached: Span, pair: (i32, i32)) -> Option<Span>
+    ensures { result ≡ next_span K.GREATEST pair reached }
 {
     let (acceptance, rejection) = pair;
-    let low = reached.low.max(past(acceptance));
-    let end = reached.end.min(whole(rejection));
-    if low >= end {
-        return None;
+    let live = Span {
+        low: reached.low.max(past(acceptance)),
+        end: reached.end.min(whole(rejection)),
+    };
+    if live.is_empty() {
+        None
+    } else {
+        Some(live.spread::<K>())
     }
-    Some(Span {
-        low,
-        end: end + greatest,
-    })
 }
 
 // The row of a pair.
@@ -65,35 +65,33 @@ fn row_over(reached: Span, pair: (i32, i32)) -> Row
     }
 }
 
-impl Walk {
-    // At the first size, for a kind of item.
-    pub fn new<K: Item>() -> Walk
-        ensures greatest { result.greatest ≡ K.GREATEST }
-        ensures size { result.size ≡ 1 }
-        ensures reached { result.reached ≡ some (first K.GREATEST) }
+impl<'a, K: Item, P: Plan> Walk<'a, K, P> {
+    // At the first size: all lines are left.
+    pub fn new(plan: &'a P) -> Walk<'a, K, P>
+        ensures { left (P.meaning result.plan.now) K.GREATEST result.size result.reached ≡ lines K.GREATEST (P.meaning plan.now) }
     {
-        let greatest = K::GREATEST;
         Walk {
-            greatest,
+            plan,
             size: 1,
-            reached: Some(Span {
-                low: 0,
-                end: greatest + 1,
-            }),
+            reached: Some(Span::first::<K>()),
+            kind: PhantomData,
         }
     }
+}
 
-    // The counts reached at the next size and their row, if the walk has not ended.
-    pub fn next<P: Plan>(&mut self, plan: &P) -> Option<(Span, Row)>
-        ensures { Stepped (P.meaning plan.now) self.old self.new result }
-    {
-        let reached = self.reached?;
-        let Some(pair) = plan.pair(self.size) else {
-            self.reached = None;
-            return None;
-        };
+// The counts reached at each size and their row.
+impl<'a, K: Item, P: Plan> Iterator for Walk<'a, K, P> {
+    type Item = (Span, Row);
+
+    ghost next_gives = { YieldsFirst (λ w. left (P.meaning w.plan.now) K.GREATEST w.size w.reached) };
+
+    ghost remaining = { item_count (λ w. left (P.meaning w.plan.now) K.GREATEST w.size w.reached) };
+
+    fn next(&mut self) -> Option<(Span, Row)> {
+        let reached = self.reached.take()?;
+        let pair = self.plan.pair(self.size)?;
         self.size += 1;
-        self.reached = reached_next(reached, pair, self.greatest);
+        self.reached = reached_next::<K>(reached, pair);
         Some((reached, row_over(reached, pair)))
     }
 }
