@@ -13,11 +13,13 @@ use std::alloc::{AllocError, Global};
 // A sheet has at most this many rows.
 const MOST_ROWS: usize = 4096;
 
-// Whether a number is missing or reached.
-fn is_reached(number: Option<u8>, reached: Span) -> bool
-    ensures { result ≡ reached_if_any reached number }
-{
-    number.is_none_or(|number| reached.contains(u32::from(number)))
+impl Span {
+    // Whether a number is missing or reached.
+    fn reaches(self, number: Option<u8>) -> bool
+        ensures { result ≡ reached_if_any self number }
+    {
+        number.is_none_or(|number| self.contains(u32::from(number)))
+    }
 }
 
 impl Row {
@@ -52,8 +54,8 @@ impl Row {
         ensures { result ≡ lawful_row last self reached }
     {
         let live = self.live(reached);
-        is_reached(self.acceptance, reached)
-            && is_reached(self.rejection, reached)
+        reached.reaches(self.acceptance)
+            && reached.reaches(self.rejection)
             && self.is_apart()
             && (live.is_empty() || live.end <= 254)
             && live.is_empty() == last

@@ -1,8 +1,8 @@
 // Counts that series reach, and the rows of a sheet.
-ghost use Rattle.std.specs.Prelude.{◌≡◌, ◌^◌, ◌<◌, ◌≤◌, ◌&&◌, not, nat_le, nat_lt};
+ghost use Rattle.std.specs.Prelude.{◌≡◌, ◌^◌, ◌<◌, ◌≤◌, ◌↔◌, IsTrue};
 ghost use Rattle.sheet.specs.Bytes.{row_bytes};
 ghost use Rattle.sheet.specs.Loads.{number_of, row_of};
-ghost use Rattle.sheet.specs.Spans.{first, some_in, spread};
+ghost use Rattle.sheet.specs.Spans.{In, first, spread};
 
 use plan::items::Item;
 
@@ -36,13 +36,13 @@ impl Span {
     }
 
     pub(crate) fn is_empty(self) -> bool
-        ensures { result ≡ not (some_in self) }
+        ensures { IsTrue result ↔ (self.end ≤ self.low) }
     {
         self.low >= self.end
     }
 
     pub(crate) fn contains(self, count: u32) -> bool
-        ensures { result ≡ (nat_le self.low count && nat_lt count self.end) }
+        ensures { IsTrue result ↔ In self count }
     {
         (self.low..self.end).contains(&count)
     }

@@ -25,43 +25,35 @@ fn whole(number: i32) -> u32
     u32::try_from(number).unwrap_or(0)
 }
 
-// The counts reached by one more item, if a pair leaves a count live.
-fn reached_next<K: Item>(reached: Span, pair: (i32, i32)) -> Option<Span>
-    ensures { result ≡ next_span K.GREATEST pair reached }
-{
-    let (acceptance, rejection) = pair;
-    let live = Span {
-        low: reached.low.max(past(acceptance)),
-        end: reached.end.min(whole(rejection)),
-    };
-    if live.is_empty() {
-        None
-    } else {
-        Some(live.spread::<K>())
+impl Span {
+    // The counts reached by one more item, if a pair leaves a count live.
+    fn next<K: Item>(self, pair: (i32, i32)) -> Option<Span>
+        ensures { result ≡ next_span K.GREATEST pair self }
+    {
+        let (acceptance, rejection) = pair;
+        let live = Span {
+            low: self.low.max(past(acceptance)),
+            end: self.end.min(whole(rejection)),
+        };
+        (!live.is_empty()).then(|| live.spread::<K>())
     }
 }
 
-// The row of a pair.
-fn row_over(reached: Span, pair: (i32, i32)) -> Row
-    requires some { reached.low < reached.end }
-    requires accepts { past pair.0 ≤ 254 }
-    requires rejects { max reached.low (whole pair.1) ≤ 254 }
-    ensures { result ≡ row_over pair reached }
-{
-    let (acceptance, rejection) = pair;
-    let accepted = past(acceptance);
-    let rejected = whole(rejection);
-    Row {
-        acceptance: if reached.low < accepted {
-            Some((reached.end.min(accepted) - 1) as u8)
-        } else {
-            None
-        },
-        rejection: if rejected < reached.end {
-            Some(reached.low.max(rejected) as u8)
-        } else {
-            None
-        },
+impl Row {
+    // The row of a pair over the counts reached.
+    fn over(reached: Span, pair: (i32, i32)) -> Row
+        requires some { reached.low < reached.end }
+        requires accepts { past pair.0 ≤ 254 }
+        requires rejects { max reached.low (whole pair.1) ≤ 254 }
+        ensures { result ≡ row_over pair reached }
+    {
+        let (acceptance, rejection) = pair;
+        let accepted = past(acceptance);
+        let rejected = whole(rejection);
+        Row {
+            acceptance: (reached.low < accepted).then(|| (reached.end.min(accepted) - 1) as u8),
+            rejection: (rejected < reached.end).then(|| reached.low.max(rejected) as u8),
+        }
     }
 }
 
@@ -91,7 +83,7 @@ impl<'a, K: Item, P: Plan> Iterator for Walk<'a, K, P> {
         let reached = self.reached.take()?;
         let pair = self.plan.pair(self.size)?;
         self.size += 1;
-        self.reached = reached_next::<K>(reached, pair);
-        Some((reached, row_over(reached, pair)))
+        self.reached = reached.next::<K>(pair);
+        Some((reached, Row::over(reached, pair)))
     }
 }
