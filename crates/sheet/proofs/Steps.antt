@@ -1,6 +1,6 @@
 -- The steps of a walk. Assumes nothing.
 use Rattle.std.proofs.Common.{◌≡◌, ℕ, zero, suc, ◌+◌, ◌-◌, ◌<◌, ◌≤◌, Bool, true, false, cond, [], ◌∷◌, length, ℤ, List, Some, None, Option, sym, refl, ap, ◌∙◌, subst, arith}
-use Rattle.std.proofs.lemmas.Bool.{ltb-true}
+use Rattle.std.proofs.lemmas.Bool.Decides.{nat_tests}
 use Rattle.plan.specs.Boundaries.{Boundary, Lawful, asked}
 use Rattle.sheet.proofs.Pairs.{asked_some, asked_none, pair_bounds}
 use Rattle.sheet.specs.Lefts.{left}
@@ -34,11 +34,11 @@ step_left b m n o o' s p r at answer next row = rw (at, next, row) (one_left b m
 
 -- the counts reached in a line that is left are small
 pub first_small : (b : Boundary) (m n : ℕ) (o : Option Span) (l : Line) (ls : List Line) → Small o → left b m n o ≡ l ∷ ls → (l.0.low < l.0.end) × (l.0.end ≤ 269)
-first_small b m n None l ls small e = absurd (let z : ◌≡◌ {A = ℕ} 0 1 = cc in omega arith)
+first_small b m n None l ls small e = cc
 first_small b m n (Some s) l ls small e = by_count (b.last + 1 - n) e
   where
     by_count : (k : ℕ) → lines_from m b k n s ≡ l ∷ ls → (l.0.low < l.0.end) × (l.0.end ≤ 269)
-    by_count zero e = absurd (let z : ◌≡◌ {A = ℕ} 0 1 = cc in omega arith)
+    by_count zero e = cc
     by_count (suc k) e = let same : s ≡ l.0 = cc in let h = small s refl in subst (λ u. (u.low < u.end) × (u.end ≤ 269)) same (h.0, h.2)
 
 -- what the pair of a lawful plan bounds
@@ -49,23 +49,12 @@ bounded b n p law answer =
 
 -- the counts reached stay small
 pub small_next : (m : ℕ) (p : ℤ × ℤ) (s : Span) → m ≤ 15 → whole p.1 ≤ 254 → Small (next_span m p s)
-small_next m p s few most t e = by_test (some_in (live p s)) refl e
-  where
-    by_test : (x : Bool) → some_in (live p s) ≡ x → cond x (Some (spread m (live p s))) None ≡ Some t → (t.low < t.end) × (t.low ≤ 253) × (t.end ≤ 269)
-    by_test true x e =
-        let l : (live p s).low < (live p s).end = ltb-true _ _ x in
-        let same : t ≡ spread m (live p s) = cc in
-        subst (λ u. (u.low < u.end) × (u.low ≤ 253) × (u.end ≤ 269)) (sym same) (omega arith, omega arith, omega arith)
-    by_test false x e = absurd (let z : ◌≡◌ {A = ℕ} 0 1 = cc in omega arith)
+small_next m p s few most t e = (grind (arith, nat_tests), grind (arith, nat_tests), grind (arith, nat_tests))
 
 -- there are at most as many lines as sizes
 pub lines_few : (m : ℕ) (b : Boundary) (k n : ℕ) (s : Span) → length (lines_from m b k n s) ≤ k
 lines_few m b zero n s = omega arith
-lines_few m b (suc k) n s = by_test (some_in (live (b.pairs n) s)) (lines_few m b k (n + 1) (spread m (live (b.pairs n) s)))
-  where
-    by_test : (t : Bool) → length (lines_from m b k (n + 1) (spread m (live (b.pairs n) s))) ≤ k → suc (length (cond t (lines_from m b k (n + 1) (spread m (live (b.pairs n) s))) [])) ≤ suc k
-    by_test true h = omega arith
-    by_test false h = omega arith
+lines_few m b (suc k) n s = let rest = lines_few m b k (n + 1) (spread m (live (b.pairs n) s)) in grind (arith, nat_tests)
 
 pub sheet_few : (m : ℕ) (b : Boundary) → Lawful b → length (lines m b) ≤ 4096
 sheet_few m b law = omega (arith, lines_few m b b.last 1 (first m), law.few)
