@@ -42,11 +42,8 @@ impl Row {
     fn is_apart(self) -> bool
         ensures { result ≡ (small_if_any self.acceptance && apart self.acceptance self.rejection) }
     {
-        match (self.acceptance, self.rejection) {
-            (Some(acceptance), Some(rejection)) => acceptance <= 253 && acceptance < rejection,
-            (Some(acceptance), None) => acceptance <= 253,
-            (None, _) => true,
-        }
+        self.acceptance
+            .is_none_or(|a| a <= 253 && self.rejection.is_none_or(|r| a < r))
     }
 
     // Whether a row, the last one or not, is lawful over the counts reached.
@@ -65,10 +62,9 @@ impl Row {
     pub(crate) fn closing(self) -> i32
         ensures { result ≡ closing_of self }
     {
-        match (self.acceptance, self.rejection) {
-            (Some(acceptance), _) => i32::from(acceptance),
-            (None, Some(rejection)) => i32::from(rejection) - 1,
-            (None, None) => -1,
+        match self.acceptance {
+            Some(acceptance) => i32::from(acceptance),
+            None => self.rejection.map_or(0, i32::from) - 1,
         }
     }
 }
