@@ -3,7 +3,7 @@ use Rattle.std.proofs.Common.{◌≡◌, ℕ, zero, suc, ◌+◌, ◌-◌, ◌<�
 use Rattle.std.proofs.lemmas.Bool.Decides.{nat_tests}
 use Rattle.plan.specs.Boundaries.{Boundary, Lawful, asked}
 use Rattle.sheet.proofs.Pairs.{asked_some, asked_none, pair_bounds}
-use Rattle.sheet.specs.Lefts.{left}
+use Rattle.sheet.specs.Lefts.{left_at}
 use Rattle.sheet.specs.Sheets.{Line, lines_from, lines, row_over}
 use Rattle.sheet.specs.Spans.{past, whole, live, some_in, next_span, spread, first}
 use Rattle.sheet.specs.Walks.{Small}
@@ -11,29 +11,29 @@ use Rattle.sheet.specs.declared.rows.Row.{Row}
 use Rattle.sheet.specs.declared.rows.Span.{Span}
 
 -- past the last size nothing is left
-pub none_left : (b : Boundary) (m n : ℕ) (s : Span) → 1 ≤ n → asked b n ≡ None → left b m n (Some s) ≡ []
+pub none_left : (b : Boundary) (m n : ℕ) (s : Span) → 1 ≤ n → asked b n ≡ None → left_at b m n (Some s) ≡ []
 none_left b m n s one over = let h = asked_none b n one over in let zero_left : b.last + 1 - n ≡ 0 = omega arith in ap (λ k. lines_from m b k n s) zero_left
 
 -- at any other size there is a line
-pub one_left : (b : Boundary) (m n : ℕ) (s : Span) (p : ℤ × ℤ) → asked b n ≡ Some p → left b m n (Some s) ≡ (s, row_over p s) ∷ left b m (n + 1) (next_span m p s)
+pub one_left : (b : Boundary) (m n : ℕ) (s : Span) (p : ℤ × ℤ) → asked b n ≡ Some p → left_at b m n (Some s) ≡ (s, row_over p s) ∷ left_at b m (n + 1) (next_span m p s)
 one_left b m n s p answer =
     let at = asked_some b n p answer in
     let more : b.last + 1 - n ≡ suc (b.last - n) = omega arith in
     let same : b.last - n ≡ b.last + 1 - (n + 1) = omega arith in
     ap (λ k. lines_from m b k n s) more
     ∙ ap (λ l. (s, row_over (b.pairs n) s) ∷ l) (by_test (some_in (live (b.pairs n) s)) _ (ap (λ k. lines_from m b k (n + 1) (spread m (live (b.pairs n) s))) same))
-    ∙ ap (λ q. (s, row_over q s) ∷ left b m (n + 1) (next_span m q s)) (sym at.2)
+    ∙ ap (λ q. (s, row_over q s) ∷ left_at b m (n + 1) (next_span m q s)) (sym at.2)
   where
-    by_test : (t : Bool) (k : ℕ) → lines_from m b k (n + 1) (spread m (live (b.pairs n) s)) ≡ left b m (n + 1) (Some (spread m (live (b.pairs n) s))) → cond t (lines_from m b k (n + 1) (spread m (live (b.pairs n) s))) [] ≡ left b m (n + 1) (cond t (Some (spread m (live (b.pairs n) s))) None)
+    by_test : (t : Bool) (k : ℕ) → lines_from m b k (n + 1) (spread m (live (b.pairs n) s)) ≡ left_at b m (n + 1) (Some (spread m (live (b.pairs n) s))) → cond t (lines_from m b k (n + 1) (spread m (live (b.pairs n) s))) [] ≡ left_at b m (n + 1) (cond t (Some (spread m (live (b.pairs n) s))) None)
     by_test true k e = e
     by_test false k e = refl
 
 -- so a step takes the first
-pub step_left : (b : Boundary) (m n : ℕ) (o o' : Option Span) (s : Span) (p : ℤ × ℤ) (r : Row) → o ≡ Some s → asked b n ≡ Some p → o' ≡ next_span m p s → r ≡ row_over p s → left b m n o ≡ (s, r) ∷ left b m (n + 1) o'
+pub step_left : (b : Boundary) (m n : ℕ) (o o' : Option Span) (s : Span) (p : ℤ × ℤ) (r : Row) → o ≡ Some s → asked b n ≡ Some p → o' ≡ next_span m p s → r ≡ row_over p s → left_at b m n o ≡ (s, r) ∷ left_at b m (n + 1) o'
 step_left b m n o o' s p r at answer next row = rw (at, next, row) (one_left b m n s p answer)
 
 -- the counts reached in a line that is left are small
-pub first_small : (b : Boundary) (m n : ℕ) (o : Option Span) (l : Line) (ls : List Line) → Small o → left b m n o ≡ l ∷ ls → (l.0.low < l.0.end) × (l.0.end ≤ 269)
+pub first_small : (b : Boundary) (m n : ℕ) (o : Option Span) (l : Line) (ls : List Line) → Small o → left_at b m n o ≡ l ∷ ls → (l.0.low < l.0.end) × (l.0.end ≤ 269)
 first_small b m n None l ls small e = cc
 first_small b m n (Some s) l ls small e = by_count (b.last + 1 - n) e
   where

@@ -24,7 +24,7 @@ fn header<K: Item>(rows: u16) -> [u8; HEADER]
 }
 
 // Writes bytes at a place, and says the place after them.
-// Tried as_chunks_mut and iter_mut().zip(walk): of what is written through them nothing is known afterwards.
+// Tried as_chunks_mut and iter_mut().zip(walk): nothing is known of the bytes that they leave.
 fn put(out: &mut [u8], at: usize, part: &[u8]) -> usize
     requires { at + length part.now ≤ length out.old }
     ensures bytes { out.new ≡ put_at out.old at part.now }

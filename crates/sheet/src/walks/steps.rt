@@ -60,7 +60,7 @@ impl Row {
 impl<'a, K: Item, P: Plan> Walk<'a, K, P> {
     // At the first size: all lines are left.
     pub fn new(plan: &'a P) -> Walk<'a, K, P>
-        ensures { left (P.meaning result.plan.now) K.GREATEST result.size result.reached ≡ lines K.GREATEST (P.meaning plan.now) }
+        ensures { left P.meaning K.GREATEST result ≡ lines K.GREATEST (P.meaning plan.now) }
     {
         Walk {
             plan,
@@ -75,9 +75,9 @@ impl<'a, K: Item, P: Plan> Walk<'a, K, P> {
 impl<'a, K: Item, P: Plan> Iterator for Walk<'a, K, P> {
     type Item = (Span, Row);
 
-    ghost next_gives = { YieldsFirst (λ w. left (P.meaning w.plan.now) K.GREATEST w.size w.reached) };
+    ghost next_gives = { YieldsFirst (left P.meaning K.GREATEST) };
 
-    ghost remaining = { item_count (λ w. left (P.meaning w.plan.now) K.GREATEST w.size w.reached) };
+    ghost remaining = { item_count (left P.meaning K.GREATEST) };
 
     fn next(&mut self) -> Option<(Span, Row)> {
         let reached = self.reached.take()?;

@@ -5,7 +5,7 @@ use Rattle.sheet.specs.Lefts.{left}
 use Rattle.sheet.proofs.drawing.put_rows.Goals as goal
 
 pub loop-row-init : goal.loop-row-init
-loop-row-init g c = renamed (sym (ap (λ w. left (g.P.Plan.meaning w.plan.now) g.K.Item.GREATEST w.size w.reached) c.into_iter-row-iterator.ensures.into_iter_gives ∙ c.new-row-items.ensures)) (begun _ _ _ _ c.requires)
+loop-row-init g c = renamed (sym (ap (left g.P.Plan.meaning g.K.Item.GREATEST) c.into_iter-row-iterator.ensures.into_iter_gives ∙ c.new-row-items.ensures)) (begun _ _ _ _ c.requires)
 
 pub loop-row-preserved : goal.loop-row-preserved
 loop-row-preserved g c =

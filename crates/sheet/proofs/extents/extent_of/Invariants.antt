@@ -7,8 +7,7 @@ abbrev pub invariant-loop-reached : goal.invariant-loop-reached
 invariant-loop-reached g l =
     let m = g.K.Item.GREATEST in
     let all = lines m (g.P.Plan.meaning l.plan) in
-    let walk = l.reached-iterator in
-    let rest = left (g.P.Plan.meaning walk.plan.now) m walk.size walk.reached in
+    let rest = left g.P.Plan.meaning m l.reached-iterator in
     record {
       rows : l.extent.rows + length rest ≡ length all;
       points : l.extent.points + points_in rest ≡ points_in all;

@@ -1,12 +1,12 @@
 use Rattle.std.proofs.Common.{◌≡◌, ◌+◌, ◌∷◌, length, sym, ap, ◌∙◌, rules}
 use Rattle.sheet.proofs.Steps.{step_left}
-use Rattle.sheet.specs.Lefts.{left}
+use Rattle.sheet.specs.Lefts.{left, left_at}
 use Rattle.sheet.proofs.walks.steps.WalkIterator.next.Given as given
 use Rattle.sheet.proofs.walks.steps.WalkIterator.next.Goals as goal
 use Rattle.sheet.proofs.walks.steps.WalkIterator.next.Goals.{After-over}
 
 -- what is left at the step begins with the line that it gives
-first : (g : given.Over) (c : After-over g) → left (g.P.Plan.meaning c.args.self.now.plan.now) g.K.Item.GREATEST c.args.self.now.size c.args.self.now.reached ≡ (c.in_ok-reached.reached, c.over.result) ∷ left (g.P.Plan.meaning c.args.self.now.plan.now) g.K.Item.GREATEST (c.args.self.now.size + 1) c.next-self.result
+first : (g : given.Over) (c : After-over g) → left g.P.Plan.meaning g.K.Item.GREATEST c.args.self.now ≡ (c.in_ok-reached.reached, c.over.result) ∷ left_at (g.P.Plan.meaning c.args.self.now.plan.now) g.K.Item.GREATEST (c.args.self.now.size + 1) c.next-self.result
 first g c = step_left (g.P.Plan.meaning c.args.self.now.plan.now) g.K.Item.GREATEST c.args.self.now.size _ _ _ _ _ (sym c.take.ensures.value ∙ c.in_ok-reached.was) (sym c.pair.ensures ∙ c.in_ok-pair.was) c.next-self.ensures c.over.ensures
 
 pub returns-clause-steps : goal.returns-clause-steps
