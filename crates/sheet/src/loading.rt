@@ -116,5 +116,7 @@ pub fn rows_checked<K: Item>(bytes: &[u8]) -> Result<&[[u8; 2]], SheetFault>
 pub fn read_rows(heap: Global, pairs: &[[u8; 2]]) -> Result<Vec<Row>, AllocError>
     ensures { IfOk result (λ v. v.items ≡ map row_of pairs.now) }
 {
-    pairs.iter().copied().map(Row::from).collect(heap)
+    let mut rows = Vec::with_capacity(heap, pairs.len())?;
+    rows.extend(pairs.iter().copied().map(Row::from))?;
+    Ok(rows)
 }
