@@ -1,5 +1,5 @@
 -- A sheet drawn row by row. Assumes nothing.
-use Rattle.std.proofs.Common.{◌≡◌, ℕ, ◌+◌, ◌*◌, ◌<◌, ◌≤◌, true, false, ltb, List, [], ◌∷◌, ◌++◌, map, length, take, drop, Ok, Err, sym, refl, ap, ◌∙◌, subst, append_assoc, append-nil, add-zero, arith}
+use Rattle.std.proofs.Common.{◌≡◌, ℕ, ◌+◌, ◌*◌, ◌<◌, ◌≤◌, true, false, ltb, List, [], ◌∷◌, ◌++◌, map, length, take, drop, Ok, Err, sym, refl, ap, ◌∙◌, subst, append_assoc, add-zero, arith}
 use Rattle.std.specs.List.{flat_map}
 use Rattle.std.proofs.lemmas.List.{length-append, take-append-drop}
 use Rattle.std.proofs.lemmas.Bool.{cond-true, cond-false, le-ltb, lt-ltb}
@@ -7,7 +7,7 @@ use Rattle.plan.specs.Boundaries.{Boundary}
 use Rattle.plan.specs.Refusals.{refuse}
 use Rattle.plan.specs.declared.refusals.Layer.TheVariants.{Memory}
 use Rattle.text.specs.Writes.{put_at}
-use Rattle.text.proofs.WriteLaws.{length_put, over_put, put_then}
+use Rattle.text.proofs.WriteLaws.{over_put, put_then}
 use Rattle.sheet.specs.Bytes.{Drawn, bytes_of, header, row_bytes, sheet_bytes}
 use Rattle.sheet.specs.Sheets.{Line, lines, row_in, sheet}
 use Rattle.sheet.specs.declared.rows.Row.{Row}
@@ -47,10 +47,6 @@ module _ (m : ℕ) (b : Boundary) (start : ℕ) (buffer : List ℕ) where
     fits : start + length d.text ≤ length buffer
     fits = omega (arith, inside)
 
-    -- there is room for one row more
-    pub row_fits : at + 2 ≤ length buffer'
-    row_fits = omega (arith, inside, d.place, ap length d.bytes ∙ length_put buffer start d.text fits)
-
     -- one row more
     pub row_drawn : (buffer'' : List ℕ) (at' : ℕ) → at' ≡ at + 2 → buffer'' ≡ put_at buffer' at (row_bytes l.1) → Drawing m b start lefts buffer buffer'' at'
     row_drawn buffer'' at' place put = record {
@@ -60,12 +56,6 @@ module _ (m : ℕ) (b : Boundary) (start : ℕ) (buffer : List ℕ) where
       whole = append_assoc d.text (row_bytes l.1) (flat_map row_bytes (map row_in lefts)) ∙ d.whole;
       room = d.room;
     }
-
-  -- all rows stand
-  pub rows_drawn : (buffer' : List ℕ) (at : ℕ) → Drawing m b start [] buffer buffer' at → (buffer' ≡ put_at buffer start (flat_map row_bytes (sheet m b))) × (at ≡ start + length (flat_map row_bytes (sheet m b)))
-  rows_drawn buffer' at d =
-      let is : d.text ≡ flat_map row_bytes (sheet m b) = sym (append-nil d.text) ∙ d.whole in
-      (d.bytes ∙ ap (put_at buffer start) is, d.place ∙ ap (λ t. start + length t) is)
 
 -- the header and the rows
 pub drawn : (m : ℕ) (b : Boundary) (buffer buffer₁ buffer' : List ℕ) (start r : ℕ) → 8 + 2 * length (sheet m b) ≤ length buffer → start ≡ 0 + 8 → buffer₁ ≡ put_at buffer 0 (header m (length (sheet m b))) → buffer' ≡ put_at buffer₁ start (flat_map row_bytes (sheet m b)) → r ≡ start + length (flat_map row_bytes (sheet m b)) → Drawn m b buffer buffer' (Ok r)

@@ -11,9 +11,6 @@ use Rattle.sheet.specs.Spans.{past, whole}
 pub asked_some : (b : Boundary) (n : ℕ) (p : ℤ × ℤ) → asked b n ≡ Some p → (1 ≤ n) × (n ≤ b.last) × (p ≡ b.pairs n)
 asked_some b n p e = (grind (arith, nat_tests), grind (arith, nat_tests), grind (arith, nat_tests))
 
-pub asked_none : (b : Boundary) (n : ℕ) → 1 ≤ n → asked b n ≡ None → b.last < n
-asked_none b n one e = grind (arith, nat_tests)
-
 -- a lawful pair accepts below, and rejects from, at most 254
 bounds : (x y : ℤ) → negsuc 0 ≤ℤ x → x <ℤ y → y ≤ℤ pos 254 → (past x ≤ whole y) × (whole y ≤ 254)
 bounds (pos a) (pos c) f l r = (omega (arith, ints), omega (arith, ints))

@@ -2,19 +2,15 @@
 use Rattle.std.proofs.Common.{◌≡◌, ℕ, zero, suc, ◌+◌, ◌-◌, ◌<◌, ◌≤◌, Bool, true, false, cond, [], ◌∷◌, length, ℤ, List, Some, None, Option, sym, refl, ap, ◌∙◌, subst, arith}
 use Rattle.std.proofs.lemmas.Bool.Decides.{nat_tests}
 use Rattle.plan.specs.Boundaries.{Boundary, Lawful, asked}
-use Rattle.sheet.proofs.Pairs.{asked_some, asked_none, pair_bounds}
+use Rattle.sheet.proofs.Pairs.{asked_some}
 use Rattle.sheet.specs.Lefts.{left_at}
 use Rattle.sheet.specs.Sheets.{Line, lines_from, lines, row_over}
-use Rattle.sheet.specs.Spans.{past, whole, live, some_in, next_span, spread, first}
+use Rattle.sheet.specs.Spans.{live, some_in, next_span, spread, first}
 use Rattle.sheet.specs.Walks.{Small}
 use Rattle.sheet.specs.declared.rows.Row.{Row}
 use Rattle.sheet.specs.declared.rows.Span.{Span}
 
--- past the last size nothing is left
-pub none_left : (b : Boundary) (m n : ℕ) (s : Span) → 1 ≤ n → asked b n ≡ None → left_at b m n (Some s) ≡ []
-none_left b m n s one over = let h = asked_none b n one over in let zero_left : b.last + 1 - n ≡ 0 = omega arith in ap (λ k. lines_from m b k n s) zero_left
-
--- at any other size there is a line
+-- at a size that a plan has there is a line
 pub one_left : (b : Boundary) (m n : ℕ) (s : Span) (p : ℤ × ℤ) → asked b n ≡ Some p → left_at b m n (Some s) ≡ (s, row_over p s) ∷ left_at b m (n + 1) (next_span m p s)
 one_left b m n s p answer =
     let at = asked_some b n p answer in
@@ -40,16 +36,6 @@ first_small b m n (Some s) l ls small e = by_count (b.last + 1 - n) e
     by_count : (k : ℕ) → lines_from m b k n s ≡ l ∷ ls → (l.0.low < l.0.end) × (l.0.end ≤ 269)
     by_count zero e = cc
     by_count (suc k) e = let same : s ≡ l.0 = cc in let h = small s refl in subst (λ u. (u.low < u.end) × (u.end ≤ 269)) same (h.0, h.2)
-
--- what the pair of a lawful plan bounds
-pub bounded : (b : Boundary) (n : ℕ) (p : ℤ × ℤ) → Lawful b → asked b n ≡ Some p → (past p.0 ≤ whole p.1) × (whole p.1 ≤ 254)
-bounded b n p law answer =
-    let at = asked_some b n p answer in
-    subst (λ q. (past q.0 ≤ whole q.1) × (whole q.1 ≤ 254)) (sym at.2) (pair_bounds b law n at.0 at.1)
-
--- the counts reached stay small
-pub small_next : (m : ℕ) (p : ℤ × ℤ) (s : Span) → m ≤ 15 → whole p.1 ≤ 254 → Small (next_span m p s)
-small_next m p s few most t e = (grind (arith, nat_tests), grind (arith, nat_tests), grind (arith, nat_tests))
 
 -- there are at most as many lines as sizes
 pub lines_few : (m : ℕ) (b : Boundary) (k n : ℕ) (s : Span) → length (lines_from m b k n s) ≤ k
