@@ -25,7 +25,7 @@ module _ (b : Boundary) where
       ⊎_elim
       (λ sooner.
       let same : ◌≡◌ {A = Option Verdict} (Some w) None = rules_one _ _ (Some w) None f.there (e.before k f.size.0 sooner) in
-      absurd (let z : ◌≡◌ {A = ℕ} 0 1 = cc in omega arith))
+      cc)
       (λ h. h)
       (cases_lt k n)
 

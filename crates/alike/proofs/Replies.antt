@@ -1,5 +1,5 @@
 -- Stands reply alike if their plans end every series alike. Assumes nothing.
-use Rattle.std.proofs.Common.{◌≡◌, ℕ, ◌+◌, ◌≤◌, ltb, List, [], ◌∷◌, ◌++◌, map, length, Some, None, Ok, Option, Result, sym, refl, ap, ◌∙◌, subst, append_assoc, arith}
+use Rattle.std.proofs.Common.{◌≡◌, ℕ, ◌+◌, ◌≤◌, ltb, List, [], ◌∷◌, ◌++◌, map, length, Some, None, Ok, Option, Result, sym, refl, ap, ◌∙◌, subst, append_assoc}
 use Rattle.std.proofs.ByRecursion.{All-push}
 use Rattle.std.proofs.lemmas.Bool.{ltb-false}
 use Rattle.std.specs.List.{AllByRecursion}
@@ -52,7 +52,7 @@ module _ (m : ℕ) (p q : Boundary) (ends : EndAlike m p q) where
         granted_alike : (o : Option Record) → Holds p h b o → first_fitting (tests m has_verdict (Take b n) o) ≡ None → granted p (Take b n) o ≡ granted q (Take b n) o
         granted_alike None hold f =
             let t = (not_first (ltb m n) _ _ (not_first (ltb 31 b) _ _ f).1).1 in
-            absurd (let z : ◌≡◌ {A = ℕ} 0 1 = cc in omega arith)
+            cc
         granted_alike (Some r) hold f =
             let t = not_first (ltb m n) _ _ (not_first (ltb 31 b) _ _ f).1 in
             ap (λ v. Lot (record { size = r.size + 1; count = r.count + n; verdict = v })) (rulings b n r (ltb-false m n t.0) hold (none_from r.verdict (not_first (has_verdict r) _ _ t.1).0))
@@ -74,8 +74,8 @@ module _ (m : ℕ) (p q : Boundary) (ends : EndAlike m p q) where
 
   on : (g h e : List Step) → map call_in g ≡ map call_in h → Life m p (e ++ g) → Life m q (e ++ h) → g ≡ h
   on [] [] e same x y = refl
-  on [] (t ∷ h) e same x y = absurd (let z : ◌≡◌ {A = ℕ} 0 1 = cc in omega arith)
-  on (s ∷ g) [] e same x y = absurd (let z : ◌≡◌ {A = ℕ} 0 1 = cc in omega arith)
+  on [] (t ∷ h) e same x y = cc
+  on (s ∷ g) [] e same x y = cc
   on (s ∷ g) (t ∷ h) e same x y =
       let calls : s.0 ≡ t.0 = cc in
       let others : map call_in g ≡ map call_in h = cc in

@@ -59,7 +59,7 @@ module _ (m : ℕ) (p q : Boundary) (alike : ReplyAlike m p q) where
       by_bay replied.0 replied.1 replied.2
     where
       by_bay : (o : Option Record) → Holds q h 0 o → Ok (Lot (record { size = length ys; count = total ys; verdict = v })) ≡ answer m has_verdict q (Read 0) o → Judges q ys v
-      by_bay None hold e = absurd (let z : ◌≡◌ {A = ℕ} 0 1 = cc in omega arith)
+      by_bay None hold e = cc
       by_bay (Some t) hold e =
           let verdict : t.verdict ≡ v = cc in
           subst (Judges q ys) verdict (subst (λ l. Judges q l t.verdict) (told_once m p h life 0 hold.0 ys hold.1 occ) hold.4)

@@ -20,10 +20,7 @@ use std::test::Fail;
 const ROOM: usize = 8200;
 
 fn single(last_size: u64, number: u64) -> Result<Single, Fail> {
-    match SingleNumbers::check(last_size, number) {
-        Ok(numbers) => Ok(Single::new(numbers)),
-        Err(_) => Err(Fail::new("no single plan")),
-    }
+    Ok(Single::new(SingleNumbers::check(last_size, number)?))
 }
 
 fn line(quality: u32) -> Result<Line, Fail> {
@@ -41,15 +38,11 @@ fn there_and_back<K: Item, P: Plan>(
 ) -> Result<usize, Fail> {
     let mut drawn = [0; ROOM];
     let mut redrawn = [0; ROOM];
-    let Ok(n) = draw::<K, P>(plan, &mut drawn) else {
-        return Err(Fail::new("not drawn"));
-    };
+    let n = draw::<K, P>(plan, &mut drawn)?;
     assert!(rt; n <= ROOM);
     let mut table = Table::new(heap);
     table.load::<K>(heap, &drawn[0..n])?;
-    let Ok(k) = draw::<K, Table>(&table, &mut redrawn) else {
-        return Err(Fail::new("not drawn again"));
-    };
+    let k = draw::<K, Table>(&table, &mut redrawn)?;
     assert_eq!(rt; k, n);
     assert_eq!(rt; &redrawn[..], &drawn[..]);
     assert_eq!(rt; extent_of::<K, Table>(&table), extent_of::<K, P>(plan));

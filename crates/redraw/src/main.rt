@@ -16,10 +16,10 @@ const ROOM: usize = 8200;
 
 // How often to draw: the argument, or once.
 fn times(rt: &HostRuntime) -> anyhow::Result<u32> {
-    for word in env::args(rt)?.skip(1) {
-        return Ok(word.as_str().parse::<u32>()?);
+    match env::args(rt)?.nth(1) {
+        Some(word) => Ok(word.as_str().parse::<u32>()?),
+        None => Ok(1),
     }
-    Ok(1)
 }
 
 // Loads a sheet for a kind of item and draws it again.
@@ -43,8 +43,8 @@ fn redraw<K: Item>(rt: &HostRuntime, bytes: &[u8], times: u32) -> anyhow::Result
             drawn = n;
         }
     }
-    if drawn <= ROOM {
-        rt.stdout().write_all(&buffer[0..drawn])?;
+    if let Some(sheet) = buffer.get(..drawn) {
+        rt.stdout().write_all(sheet)?;
     }
     Ok(())
 }

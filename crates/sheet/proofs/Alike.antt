@@ -1,6 +1,6 @@
 -- What the row of a pair tells of its rulings on the counts of a span. Assumes nothing.
-use Rattle.std.proofs.Common.{◌≡◌, ℕ, ◌-◌, ◌<◌, ◌≤◌, min, max, true, cond, ltb, ℤ, Some, None, Option, sym, ap, ◌∙◌, subst, ⊎_elim, arith}
-use Rattle.std.proofs.lemmas.Bool.{ltb-true, lt-ltb, cases_order}
+use Rattle.std.proofs.Common.{◌≡◌, ℕ, ◌-◌, ◌<◌, ◌≤◌, min, max, true, cond, ltb, ℤ, Some, None, Option, sym, ap, ◌∙◌, subst, arith}
+use Rattle.std.proofs.lemmas.Bool.{ltb-true, lt-ltb}
 use Rattle.std.proofs.lemmas.Bool.Decides.{nat_tests}
 use Rattle.plan.proofs.Judging.{rules_ruled, rules_one}
 use Rattle.plan.specs.Rulings.{Rules, ruled}
@@ -89,7 +89,7 @@ module _ (p q : ℤ × ℤ) (s : Span) (same : (d : ℕ) → In s d → ruled p 
       omega (arith, from_rejected q d (carried p q d (Some Reject) (same d (omega arith, omega arith)) (rejected p d (omega arith) (omega arith))))
 
 level : (a b : ℕ) → (a < b → ⊥) → (b < a → ⊥) → a ≡ b
-level a b f g = ⊎_elim (λ e. e) (⊎_elim (λ l. absurd (f l)) (λ l. absurd (g l))) (cases_order a b)
+level a b f g = omega arith
 
 pub alike_from_ruled : (p q : ℤ × ℤ) (s : Span) → past p.0 ≤ whole p.1 → past q.0 ≤ whole q.1 → ((d : ℕ) → In s d → ruled p d ≡ ruled q d) → Alike p q s
 alike_from_ruled p q s law_p law_q same =

@@ -1,5 +1,5 @@
 -- A sheet drawn row by row. Assumes nothing.
-use Rattle.std.proofs.Common.{◌≡◌, ℕ, ◌+◌, ◌*◌, ◌<◌, ◌≤◌, true, false, ltb, List, [], ◌∷◌, ◌++◌, map, length, take, drop, Ok, Err, sym, refl, ap, ◌∙◌, append_assoc, append-nil, add-zero, arith}
+use Rattle.std.proofs.Common.{◌≡◌, ℕ, ◌+◌, ◌*◌, ◌<◌, ◌≤◌, true, false, ltb, List, [], ◌∷◌, ◌++◌, map, length, take, drop, Ok, Err, sym, refl, ap, ◌∙◌, subst, append_assoc, add-zero, arith}
 use Rattle.std.specs.List.{flat_map}
 use Rattle.std.proofs.lemmas.List.{length-append, take-append-drop}
 use Rattle.std.proofs.lemmas.Bool.{cond-true, cond-false, le-ltb, lt-ltb}
@@ -7,8 +7,8 @@ use Rattle.plan.specs.Boundaries.{Boundary}
 use Rattle.plan.specs.Refusals.{refuse}
 use Rattle.plan.specs.declared.refusals.Layer.TheVariants.{Memory}
 use Rattle.text.specs.Writes.{put_at}
-use Rattle.text.proofs.WriteLaws.{length_put, over_put, put_then}
-use Rattle.sheet.specs.Bytes.{Drawn, bytes_of, header, number_byte, row_bytes, sheet_bytes}
+use Rattle.text.proofs.WriteLaws.{over_put, put_then}
+use Rattle.sheet.specs.Bytes.{Drawn, bytes_of, header, row_bytes, sheet_bytes}
 use Rattle.sheet.specs.Sheets.{Line, lines, row_in, sheet}
 use Rattle.sheet.specs.declared.rows.Row.{Row}
 
@@ -28,6 +28,10 @@ pub record Drawing (m : ℕ) (b : Boundary) (start : ℕ) (lefts : List Line) (b
   pub whole : text ++ flat_map row_bytes (map row_in lefts) ≡ flat_map row_bytes (sheet m b)
   pub room : start + length (flat_map row_bytes (sheet m b)) ≤ length buffer
 
+-- the same drawing, where what is left is shown otherwise
+pub renamed : {m : _} {b : _} {start : _} {ls ks : List Line} {buffer buffer' : _} {at : _} → ls ≡ ks → Drawing m b start ls buffer buffer' at → Drawing m b start ks buffer buffer' at
+renamed {m} {b} {start} {buffer = buffer} {buffer'} {at} e d = subst (λ l. Drawing m b start l buffer buffer' at) e d
+
 module _ (m : ℕ) (b : Boundary) (start : ℕ) (buffer : List ℕ) where
   pub begun : start + length (flat_map row_bytes (sheet m b)) ≤ length buffer → Drawing m b start (lines m b) buffer buffer start
   begun room = record { text = []; place = omega arith; bytes = sym (ap (λ n. take start buffer ++ drop n buffer) (add-zero start) ∙ take-append-drop start buffer); whole = refl; room = room }
@@ -43,10 +47,6 @@ module _ (m : ℕ) (b : Boundary) (start : ℕ) (buffer : List ℕ) where
     fits : start + length d.text ≤ length buffer
     fits = omega (arith, inside)
 
-    -- there is room for one row more
-    pub row_fits : at + 2 ≤ length buffer'
-    row_fits = omega (arith, inside, d.place, ap length d.bytes ∙ length_put buffer start d.text fits)
-
     -- one row more
     pub row_drawn : (buffer'' : List ℕ) (at' : ℕ) → at' ≡ at + 2 → buffer'' ≡ put_at buffer' at (row_bytes l.1) → Drawing m b start lefts buffer buffer'' at'
     row_drawn buffer'' at' place put = record {
@@ -56,12 +56,6 @@ module _ (m : ℕ) (b : Boundary) (start : ℕ) (buffer : List ℕ) where
       whole = append_assoc d.text (row_bytes l.1) (flat_map row_bytes (map row_in lefts)) ∙ d.whole;
       room = d.room;
     }
-
-  -- all rows stand
-  pub rows_drawn : (buffer' : List ℕ) (at : ℕ) → Drawing m b start [] buffer buffer' at → (buffer' ≡ put_at buffer start (flat_map row_bytes (sheet m b))) × (at ≡ start + length (flat_map row_bytes (sheet m b)))
-  rows_drawn buffer' at d =
-      let is : d.text ≡ flat_map row_bytes (sheet m b) = sym (append-nil d.text) ∙ d.whole in
-      (d.bytes ∙ ap (put_at buffer start) is, d.place ∙ ap (λ t. start + length t) is)
 
 -- the header and the rows
 pub drawn : (m : ℕ) (b : Boundary) (buffer buffer₁ buffer' : List ℕ) (start r : ℕ) → 8 + 2 * length (sheet m b) ≤ length buffer → start ≡ 0 + 8 → buffer₁ ≡ put_at buffer 0 (header m (length (sheet m b))) → buffer' ≡ put_at buffer₁ start (flat_map row_bytes (sheet m b)) → r ≡ start + length (flat_map row_bytes (sheet m b)) → Drawn m b buffer buffer' (Ok r)
@@ -80,10 +74,3 @@ too_short m b buffer needed is short =
       bytes = sym (cond-true _ _ _ test);
       result = ap (λ n. Err (refuse 13 Memory n)) same ∙ sym (cond-true _ _ _ test);
     }
-
--- the bytes of a row and of the header, by their parts
-pub row_is : (x y : ℕ) (r : Row) → x ≡ number_byte r.acceptance → y ≡ number_byte r.rejection → (x ∷ y ∷ []) ≡ row_bytes r
-row_is x y r e f = ap (λ z. z ∷ y ∷ []) e ∙ ap (λ z. number_byte r.acceptance ∷ z ∷ []) f
-
-pub header_is : (k rows m n : ℕ) → k ≡ m → rows ≡ n → header k rows ≡ header m n
-header_is k rows m n e f = ap (λ z. header z rows) e ∙ ap (header m) f

@@ -25,7 +25,7 @@ module _ (m : ℕ) (p q : Boundary) (xs : List ℕ) (small : AllByRecursion (λ 
       → ((i : ℕ) → n ≤ i → i < end → Rules (p.pairs i) (total (take i xs)) None) → Rules (p.pairs end) (total (take end xs)) v
       → (end ≤ q.last) × ((i : ℕ) → n ≤ i → i < end → Rules (q.pairs i) (total (take i xs)) None) × Rules (q.pairs end) (total (take end xs)) v
   follow zero j n s to_p to_q at e end v from within reached before there = absurd (omega arith)
-  follow (suc k) zero n s to_p to_q at e end v from within reached before there = absurd (let z : ◌≡◌ {A = ℕ} 0 1 = cc in omega arith)
+  follow (suc k) zero n s to_p to_q at e end v from within reached before there = cc
   follow (suc k) (suc j) n s to_p to_q at e end v from within reached before there =
       let head : row_over (p.pairs n) s ≡ row_over (q.pairs n) s = cc in
       let alike = alike_from_row (p.pairs n) (q.pairs n) s (omega arith) head in

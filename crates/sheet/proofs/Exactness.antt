@@ -1,8 +1,9 @@
 -- Bytes without a fault are the sheet of a lawful plan, and such a sheet has none. Assumes nothing.
-use Rattle.std.proofs.Common.{◌≡◌, ℕ, zero, suc, ◌+◌, ◌-◌, ◌*◌, ◌/◌, ◌%◌, ◌<◌, ◌≤◌, min, max, Bool, true, false, cond, not, ◌&&◌, eqb, ltb, leb, List, [], ◌∷◌, ◌++◌, map, length, take, drop, Some, None, Option, sym, refl, ap, ◌∙◌, subst, arith}
+use Rattle.std.proofs.Common.{◌≡◌, ℕ, zero, suc, ◌+◌, ◌-◌, ◌*◌, ◌/◌, ◌%◌, ◌<◌, ◌≤◌, min, max, Bool, true, false, cond, ltb, List, [], ◌∷◌, ◌++◌, map, length, take, drop, Some, None, Option, sym, refl, ap, ◌∙◌, subst, arith, rules}
 use mathlib.Core.Logic.{∥∥₁_elim}
 use Rattle.std.proofs.lemmas.List.{take-append-drop, length-drop}
-use Rattle.std.proofs.lemmas.Bool.{and_parts, and_from, cond-false, eq-eqb, eqb-true, le-leb, le-ltb, leb-true, ltb-false, ltb-true, ne_eqb, not-false, not_from_true}
+use Rattle.std.proofs.lemmas.Bool.{ltb-true}
+use Rattle.std.proofs.lemmas.Bool.Decides.{nat_tests}
 use Rattle.std.specs.List.{flat_map}
 use Rattle.plan.specs.Boundaries.{Boundary, Lawful}
 use Rattle.sheet.proofs.Drawings.{length_sheet}
@@ -20,11 +21,7 @@ use Rattle.sheet.specs.declared.rows.Span.{Span}
 
 -- a byte is read and written back
 same_number : (x : ℕ) → number_byte (number_of x) ≡ x
-same_number x = by_test (eqb x 255) refl
-  where
-    by_test : (t : Bool) → eqb x 255 ≡ t → number_byte (cond t None (Some x)) ≡ x
-    by_test true e = sym (eqb-true x 255 e)
-    by_test false e = refl
+same_number x = grind (arith, nat_tests)
 
 -- bytes are read as rows and written back
 same_bytes : (bs : List ℕ) → length bs % 2 ≡ 0 → flat_map row_bytes (rows_of bs) ≡ bs
@@ -35,8 +32,7 @@ same_bytes (x ∷ y ∷ bs) even =
 
 -- a number of a row is written and read back
 small_byte : (x : Bool) (n : ℕ) → (x ≡ true → n ≤ 254) → number_of (number_byte (cond x (Some n) None)) ≡ cond x (Some n) None
-small_byte true n h = cond-false (eqb n 255) None (Some n) (ne_eqb n 255 (λ e. omega (arith, h refl)))
-small_byte false n h = refl
+small_byte x n h = grind (arith, nat_tests)
 
 module _ (m : ℕ) (p : Boundary) (law : Lawful p) where
   -- the rows of a plan are written and read back
@@ -75,51 +71,32 @@ pub record Fine (m : ℕ) (bytes : List ℕ) : Type 0 where
   pub whole : length bytes ≡ 8 + 2 * rows_told bytes
   pub rows : first_unlawful m 1 (first m) (rows_in bytes) ≡ None
 
-passes : (x : Bool) (e : SheetFault) (o : Option SheetFault) → cond x (Some e) o ≡ None → (x ≡ false) × (o ≡ None)
-passes true e o h = absurd (let z : ◌≡◌ {A = ℕ} 0 1 = cc in omega arith)
-passes false e o h = (refl, h)
-
 parts : (a b : Option SheetFault) → or_else a b ≡ None → (a ≡ None) × (b ≡ None)
 parts None b h = (refl, h)
-parts (Some e) b h = absurd (let z : ◌≡◌ {A = ℕ} 0 1 = cc in omega arith)
+parts (Some e) b h = cc
 
 no_row : (o : Option ℕ) → row_fault o ≡ None → o ≡ None
 no_row None h = refl
-no_row (Some i) h = absurd (let z : ◌≡◌ {A = ℕ} 0 1 = cc in omega arith)
+no_row (Some i) h = cc
 
 module _ (m : ℕ) (bytes : List ℕ) where
   pub fine_from : fault_in m bytes ≡ None → Fine m bytes
   fine_from none =
       let both = parts (first_fault (header_tests m bytes)) _ none in
-      let long = passes (ltb (length bytes) 8) _ _ both.0 in
-      let mark = passes (not (eqb (byte bytes 0) 83 && (eqb (byte bytes 1) 81 && eqb (byte bytes 2) 65))) _ _ long.1 in
-      let version = passes (not (eqb (byte bytes 3) 1 && eqb (byte bytes 4) 0)) _ _ mark.1 in
-      let kind = passes (not (eqb (byte bytes 5) m)) _ _ version.1 in
-      let size = passes (not (leb 1 (rows_told bytes) && (leb (rows_told bytes) 4096 && eqb (length bytes) (8 + 2 * rows_told bytes)))) _ _ kind.1 in
-      let ms = and_parts (eqb (byte bytes 0) 83) _ (not-false _ mark.0) in
-      let ns = and_parts (eqb (byte bytes 1) 81) _ ms.1 in
-      let vs = and_parts (eqb (byte bytes 3) 1) _ (not-false _ version.0) in
-      let ss = and_parts (leb 1 (rows_told bytes)) _ (not-false _ size.0) in
-      let ts = and_parts (leb (rows_told bytes) 4096) _ ss.1 in
       record {
-        long = ltb-false _ _ long.0;
-        mark = (eqb-true _ _ ms.0, eqb-true _ _ ns.0, eqb-true _ _ ns.1);
-        version = (eqb-true _ _ vs.0, eqb-true _ _ vs.1);
-        kind = eqb-true _ _ (not-false _ kind.0);
-        some = leb-true _ _ ss.0;
-        few = leb-true _ _ ts.0;
-        whole = eqb-true _ _ ts.1;
+        long = grind (arith, nat_tests);
+        mark = (grind (arith, nat_tests), grind (arith, nat_tests), grind (arith, nat_tests));
+        version = (grind (arith, nat_tests), grind (arith, nat_tests));
+        kind = grind (arith, nat_tests);
+        some = grind (arith, nat_tests);
+        few = grind (arith, nat_tests);
+        whole = grind (arith, nat_tests);
         rows = no_row _ both.1;
       }
 
   pub no_fault : Fine m bytes → fault_in m bytes ≡ None
   no_fault f =
-      let long = le-ltb (length bytes) 8 f.long in
-      let mark = not_from_true _ (and_from _ _ (eq-eqb _ _ f.mark.0) (and_from _ _ (eq-eqb _ _ f.mark.1) (eq-eqb _ _ f.mark.2))) in
-      let version = not_from_true _ (and_from _ _ (eq-eqb _ _ f.version.0) (eq-eqb _ _ f.version.1)) in
-      let kind = not_from_true _ (eq-eqb _ _ f.kind) in
-      let size = not_from_true _ (and_from _ _ (le-leb 1 (rows_told bytes) f.some) (and_from _ _ (le-leb (rows_told bytes) 4096 f.few) (eq-eqb _ _ f.whole))) in
-      let header : first_fault (header_tests m bytes) ≡ None = cond-false _ _ _ long ∙ cond-false _ _ _ mark ∙ cond-false _ _ _ version ∙ cond-false _ _ _ kind ∙ cond-false _ _ _ size in
+      let header : first_fault (header_tests m bytes) ≡ None = search rules in
       ap (λ o. or_else o (row_fault (first_unlawful m 1 (first m) (rows_in bytes)))) header ∙ ap row_fault f.rows
 
 -- as many rows as the header tells

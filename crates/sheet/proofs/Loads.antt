@@ -42,11 +42,11 @@ module _ (m : ℕ) where
 
   -- the first row is lawful, and so are the others
   first_lawful : (i : ℕ) (s : Span) (r : Row) (rs : List Row) → first_unlawful m i s (r ∷ rs) ≡ None → (lawful_row (is_nil rs) r s ≡ true) × (first_unlawful m (i + 1) (spread m (live_of r s)) rs ≡ None)
-  first_lawful i s r rs = by_test (lawful_row (is_nil rs) r s)
+  first_lawful i s r rs e = by_test (lawful_row (is_nil rs) r s) e
     where
       by_test : (t : Bool) → cond t (first_unlawful m (i + 1) (spread m (live_of r s)) rs) (Some i) ≡ None → (t ≡ true) × (first_unlawful m (i + 1) (spread m (live_of r s)) rs ≡ None)
       by_test true e = (refl, e)
-      by_test false e = absurd (let z : ◌≡◌ {A = ℕ} 0 1 = cc in omega arith)
+      by_test false e = cc
 
   next_low : (r : Row) (s : Span) → Goes_on r s → Low (spread m (live_of r s))
   next_low r s g = record { some = omega arith; low = omega arith }

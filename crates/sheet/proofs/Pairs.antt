@@ -1,7 +1,7 @@
 -- Pairs of a lawful plan as counts, and the ruling on a count by them. Assumes nothing.
-use Rattle.std.proofs.Common.{◌≡◌, ℕ, ◌<◌, ◌≤◌, Bool, true, false, cond, ◌&&◌, leb, ℤ, pos, negsuc, ◌+ℤ◌, ◌≤ℤ◌, ◌<ℤ◌, Some, None, refl, ⊎_elim, arith}
+use Rattle.std.proofs.Common.{◌≡◌, ℕ, ◌<◌, ◌≤◌, ℤ, pos, negsuc, ◌+ℤ◌, ◌≤ℤ◌, ◌<ℤ◌, Some, None, refl, arith}
 use Rattle.std.proofs.lemmas.Int.{ints}
-use Rattle.std.proofs.lemmas.Bool.{and_parts, leb-true, leb-false, and_cases}
+use Rattle.std.proofs.lemmas.Bool.Decides.{nat_tests}
 use Rattle.plan.specs.Boundaries.{Boundary, Lawful, asked}
 use Rattle.plan.specs.Rulings.{Rules}
 use Rattle.plan.specs.declared.verdicts.Verdict.TheVariants.{Accept, Reject}
@@ -9,18 +9,7 @@ use Rattle.sheet.specs.Spans.{past, whole}
 
 -- what a plan answers for a size
 pub asked_some : (b : Boundary) (n : ℕ) (p : ℤ × ℤ) → asked b n ≡ Some p → (1 ≤ n) × (n ≤ b.last) × (p ≡ b.pairs n)
-asked_some b n p e = by_test (leb 1 n && leb n b.last) refl e
-  where
-    by_test : (t : Bool) → (leb 1 n && leb n b.last) ≡ t → cond t (Some (b.pairs n)) None ≡ Some p → (1 ≤ n) × (n ≤ b.last) × (p ≡ b.pairs n)
-    by_test true t e = let h = and_parts (leb 1 n) (leb n b.last) t in (leb-true _ _ h.0, leb-true _ _ h.1, cc)
-    by_test false t e = absurd (let z : ◌≡◌ {A = ℕ} 0 1 = cc in omega arith)
-
-pub asked_none : (b : Boundary) (n : ℕ) → 1 ≤ n → asked b n ≡ None → b.last < n
-asked_none b n one e = by_test (leb 1 n && leb n b.last) refl e
-  where
-    by_test : (t : Bool) → (leb 1 n && leb n b.last) ≡ t → cond t (Some (b.pairs n)) None ≡ None → b.last < n
-    by_test true t e = absurd (let z : ◌≡◌ {A = ℕ} 0 1 = cc in omega arith)
-    by_test false t e = ⊎_elim (λ f. absurd (omega (arith, leb-false 1 n f))) (λ f. leb-false _ _ f) (and_cases (leb 1 n) (leb n b.last) t)
+asked_some b n p e = (grind (arith, nat_tests), grind (arith, nat_tests), grind (arith, nat_tests))
 
 -- a lawful pair accepts below, and rejects from, at most 254
 bounds : (x y : ℤ) → negsuc 0 ≤ℤ x → x <ℤ y → y ≤ℤ pos 254 → (past x ≤ whole y) × (whole y ≤ 254)

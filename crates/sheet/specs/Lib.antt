@@ -8,5 +8,4 @@ pub mod Soundness
 pub mod Refusals
 pub mod Bytes
 pub mod Loads
-pub mod Comparing
 pub mod Examples

@@ -16,9 +16,12 @@ use Rattle.sheet.specs.declared.tables.Table.{Table}
 abbrev pub number_of : ℕ → Option ℕ
 number_of n = cond (n == 255) None (Some n)
 
--- The row of two bytes, and the rows that bytes are read as.
+-- The row of two bytes, apart and together, and the rows that bytes are read as.
 abbrev pub row_from : ℕ → ℕ → Row
 row_from x y = record { acceptance = number_of x; rejection = number_of y }
+
+abbrev pub row_of : List ℕ → Row
+row_of bytes = row_from (slice_index bytes 0) (slice_index bytes 1)
 
 abbrev pub rows_of : List ℕ → List Row
 rows_of [] = []

@@ -2,7 +2,7 @@
 ghost use Rattle.std.specs.Prelude.{◌≡◌, ◌+◌, ◌≤◌, length};
 ghost use Rattle.std.specs.List.{flat_map};
 ghost use Rattle.text.specs.Writes.{put_at};
-ghost use Rattle.sheet.specs.Bytes.{Drawn, number_byte, row_bytes, told};
+ghost use Rattle.sheet.specs.Bytes.{Drawn, header, row_bytes, told};
 ghost use Rattle.sheet.specs.Series.{SheetOf};
 ghost use Rattle.sheet.specs.Sheets.{sheet};
 
@@ -15,7 +15,16 @@ use plan::plans::Plan;
 // A sheet begins with this many bytes before its rows.
 pub const HEADER: usize = 8;
 
+// The header of a sheet of so many rows, for a kind of item.
+fn header<K: Item>(rows: u16) -> [u8; HEADER]
+    ensures { result ≡ header K.GREATEST rows }
+{
+    let [low, high] = rows.to_le_bytes();
+    [b'S', b'Q', b'A', 1, 0, K::GREATEST as u8, low, high]
+}
+
 // Writes bytes at a place, and says the place after them.
+// Tried as_chunks_mut and iter_mut().zip(walk): nothing is known of the bytes that they leave.
 fn put(out: &mut [u8], at: usize, part: &[u8]) -> usize
     requires { at + length part.now ≤ length out.old }
     ensures bytes { out.new ≡ put_at out.old at part.now }
@@ -26,27 +35,15 @@ fn put(out: &mut [u8], at: usize, part: &[u8]) -> usize
     end
 }
 
-// A number of a row as a byte, 255 where there is none.
-fn number_byte(number: Option<u8>) -> u8
-    ensures { result ≡ number_byte number }
-{
-    number.unwrap_or(255)
-}
-
 // Writes the rows of a plan's sheet at a place, and says the place after them.
 fn put_rows<K: Item, P: Plan>(plan: &P, out: &mut [u8], start: usize) -> usize
     requires { start + length (flat_map row_bytes (sheet K.GREATEST (P.meaning plan.now))) ≤ length out.old }
     ensures bytes { out.new ≡ put_at out.old start (flat_map row_bytes (sheet K.GREATEST (P.meaning plan.now))) }
     ensures place { result ≡ start + length (flat_map row_bytes (sheet K.GREATEST (P.meaning plan.now))) }
 {
-    let mut walk = Walk::new::<K>();
     let mut at = start;
-    while let Some((_, row)) = walk.next(plan) {
-        at = put(
-            out,
-            at,
-            &[number_byte(row.acceptance), number_byte(row.rejection)],
-        );
+    for (_, row) in Walk::<K, P>::new(plan) {
+        at = put(out, at, &<[u8; 2]>::from(row));
     }
     at
 }
@@ -62,9 +59,6 @@ pub fn draw<K: Item, P: Plan>(plan: &P, buffer: &mut [u8]) -> Result<usize, Shee
     if buffer.len() < needed {
         return Err(SheetFault::ShortBuffer(needed as u32));
     }
-    let kind = K::GREATEST as u8;
-    let low = (rows % 256) as u8;
-    let high = (rows / 256) as u8;
-    let start = put(buffer, 0, &[b'S', b'Q', b'A', 1, 0, kind, low, high]);
+    let start = put(buffer, 0, &header::<K>(rows as u16));
     Ok(put_rows::<K, P>(plan, buffer, start))
 }

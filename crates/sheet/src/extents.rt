@@ -18,12 +18,10 @@ pub fn extent_of<K: Item, P: Plan>(plan: &P) -> Extent
     ensures rows { result.rows ≡ length (sheet K.GREATEST (P.meaning plan.now)) }
     ensures points { result.points ≡ points K.GREATEST (P.meaning plan.now) }
 {
-    let mut walk = Walk::new::<K>();
-    let mut rows = 0;
-    let mut points = 0;
-    while let Some((reached, _)) = walk.next(plan) {
-        rows += 1;
-        points += reached.end - reached.low;
+    let mut extent = Extent { rows: 0, points: 0 };
+    for (reached, _) in Walk::<K, P>::new(plan) {
+        extent.rows += 1;
+        extent.points += reached.end - reached.low;
     }
-    Extent { rows, points }
+    extent
 }

@@ -1,7 +1,7 @@
 // What a sheet, or the buffer that it is to be drawn in, is refused for.
 ghost use Rattle.std.specs.Prelude.{◌≡◌};
 ghost use Rattle.sheet.specs.Refusals.{refused_sheet};
-ghost use Rattle.sheet.specs.declared.faults.LoadFault.TheVariants.{BadSheet, NoMemory as none};
+ghost use Rattle.sheet.specs.declared.faults.LoadFault.TheVariants.{BadSheet, NoMemory};
 
 use plan::refusals::{Fault, Layer, Refusal};
 use std::alloc::AllocError;
@@ -60,7 +60,7 @@ impl From<SheetFault> for LoadFault {
 }
 
 impl From<AllocError> for LoadFault {
-    ghost from_gives = { λ e r. r ≡ none };
+    ghost from_gives = { λ e r. r ≡ NoMemory };
 
     fn from(_e: AllocError) -> LoadFault {
         LoadFault::NoMemory

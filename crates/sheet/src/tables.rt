@@ -9,7 +9,7 @@ mod loads;
 mod plans;
 
 // The rows but the last, and the acceptance number at the last size.
-#[derive(Drop)]
+#[derive(Debug, PartialEq, Eq, Drop)]
 pub struct Table {
     rows: Vec<Row>,
     closing: i32,

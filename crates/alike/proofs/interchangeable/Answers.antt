@@ -1,6 +1,5 @@
-use Rattle.std.proofs.Common.{Bool, sym, ap, ◌∙◌}
+use Rattle.std.proofs.Common.{Bool, IsTrue, ◌↔◌, sym, ap, ◌∙◌}
 use Rattle.sheet.specs.Bytes.{bytes_of}
-use Rattle.sheet.specs.Comparing.{Tells}
 use Rattle.sheet.specs.Loads.{rows_in}
 use Rattle.sheet.proofs.Ends.{ends_from_sheet, sheet_from_ends}
 use Rattle.sheet.proofs.Exactness.{sheet_reread}
@@ -11,7 +10,7 @@ use Rattle.alike.proofs.Series.{ends_from_reply}
 use Rattle.alike.proofs.interchangeable.Goals as goal
 
 -- an answer tells what is as much as what it tells
-as_much : (r : Bool) (A B : Type 0) → Tells r A → (A → B) → (B → A) → Tells r B
+as_much : (r : Bool) (A B : Type 0) → (IsTrue r ↔ A) → (A → B) → (B → A) → (IsTrue r ↔ B)
 as_much r A B t f g = (λ x. f (t.0 x), λ b. t.1 (g b))
 
 pub returns : goal.returns

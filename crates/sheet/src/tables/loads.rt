@@ -3,7 +3,7 @@ ghost use Rattle.sheet.specs.Loads.{Exact, Loaded, Redrawn, fault_in};
 
 use super::Table;
 use crate::faults::LoadFault;
-use crate::loading::{closing_of, read_rows, rows_checked};
+use crate::loading::{read_rows, rows_checked};
 use plan::items::Item;
 use std::alloc::Global;
 
@@ -14,12 +14,12 @@ impl Table {
         ensures exact { Exact K.GREATEST bytes.now }
         ensures redrawn { Redrawn K.GREATEST bytes.now self.new result }
     {
-        let mut rows = read_rows(heap, rows_checked(K::GREATEST, bytes)?)?;
+        let mut rows = read_rows(heap, rows_checked::<K>(bytes)?)?;
         let count = rows.len() as u32;
         if let Some(last) = rows.pop() {
             *self = Table {
                 rows,
-                closing: closing_of(last),
+                closing: last.closing(),
             };
         }
         Ok(count)

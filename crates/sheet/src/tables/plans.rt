@@ -21,19 +21,16 @@ impl Table {
     }
 }
 
-// The pair of a row that is not the last: a missing number stands for -1 or 254.
-fn pair_of(row: Row) -> (i32, i32)
-    ensures { result ≡ pair_of row }
-{
-    let acceptance = match row.acceptance {
-        Some(number) => i32::from(number),
-        None => -1,
-    };
-    let rejection = match row.rejection {
-        Some(number) => i32::from(number),
-        None => 254,
-    };
-    (acceptance, rejection)
+impl Row {
+    // The pair of a row that is not the last: a missing number stands for -1 or 254.
+    fn pair(self) -> (i32, i32)
+        ensures { result ≡ pair_of self }
+    {
+        (
+            self.acceptance.map_or(-1, i32::from),
+            self.rejection.map_or(254, i32::from),
+        )
+    }
 }
 
 impl Plan for Table {
@@ -47,12 +44,12 @@ impl Plan for Table {
 
     fn pair(&self, size: u32) -> Option<(i32, i32)> {
         let last_size = self.last_size();
-        if size < 1 || size > last_size {
+        if !(1..=last_size).contains(&size) {
             return None;
         }
         if size == last_size {
             return Some((self.closing, self.closing + 1));
         }
-        Some(pair_of(self.rows[size as usize - 1]))
+        Some(self.rows[size as usize - 1].pair())
     }
 }

@@ -5,9 +5,11 @@ use Rattle.sheet.proofs.extents.extent_of.Given as goal
 
 abbrev pub invariant-loop-reached : goal.invariant-loop-reached
 invariant-loop-reached g l =
-    (l.rows + length (left (g.P.Plan.meaning l.plan) l.walk) ≡ length (lines g.K.Item.GREATEST (g.P.Plan.meaning l.plan)))
-    × (l.points + points_in (left (g.P.Plan.meaning l.plan) l.walk) ≡ points_in (lines g.K.Item.GREATEST (g.P.Plan.meaning l.plan)))
-    × (l.points ≤ 269 * l.rows)
-
-abbrev pub decreases-loop-reached : goal.decreases-loop-reached
-decreases-loop-reached g l = length (left (g.P.Plan.meaning l.plan) l.walk)
+    let m = g.K.Item.GREATEST in
+    let all = lines m (g.P.Plan.meaning l.plan) in
+    let rest = left g.P.Plan.meaning m l.reached-iterator in
+    record {
+      rows : l.extent.rows + length rest ≡ length all;
+      points : l.extent.points + points_in rest ≡ points_in all;
+      few : l.extent.points ≤ 269 * l.extent.rows;
+    }

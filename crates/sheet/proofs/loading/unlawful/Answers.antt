@@ -1,25 +1,18 @@
-use Rattle.std.proofs.Common.{◌+◌, ◌-◌, ◌≤◌, length, take, drop, sym, ap, ◌∙◌, arith, rules}
-use Rattle.sheet.specs.Tables.{first_unlawful}
-use Rattle.sheet.specs.Spans.{span}
-use Rattle.sheet.specs.Loads.{rows_of}
-use Rattle.sheet.proofs.Reading.{rest_length, found, passed, stays_few}
+use Rattle.std.proofs.Common.{◌≡◌, ◌+◌, drop, map, sym, ap, ◌∙◌, arith}
+use Rattle.sheet.specs.Loads.{row_of}
+use Rattle.sheet.specs.Spans.{spread}
+use Rattle.sheet.specs.Tables.{first_unlawful, live_of}
+use Rattle.sheet.proofs.Reading.{found, live_low, passed}
 use Rattle.sheet.proofs.loading.unlawful.Goals as goal
 
 pub returns-then-not-is_lawful : goal.returns-then-not-is_lawful
-returns-then-not-is_lawful c =
-    let inv = c.loop-rest.invariant in
-    let two : 2 ≤ length c.loop-rest.rest.now = search rules in
-    sym (found c.args.greatest c.loop-rest.row_number c.loop-rest.reached c.loop-rest.rest.now c.row_of-row.result c.is_empty.result two inv.0 c.row_of-row.ensures c.is_empty.ensures (sym c.is_lawful.ensures ∙ c.if-not-is_lawful.true)) ∙ inv.3
+returns-then-not-is_lawful g c = found _ _ _ _ _ _ c.loop-i-test.true c.from-row.ensures (sym c.is_lawful.ensures ∙ c.if-not-is_lawful.true) ∙ c.loop-i.invariant.same
 
-pub loop-rest-preserved : goal.loop-rest-preserved
-loop-rest-preserved c =
-    let inv = c.loop-rest.invariant in
-    let bs = c.loop-rest.rest.now in
-    let m = c.args.greatest in
-    let two : 2 ≤ length c.loop-rest.rest.now = search rules in
-    let lawful = sym c.is_lawful.ensures ∙ c.if-not-is_lawful.false in
-    let live = c.live_of-live.ensures in
-    let shorter = rest_length m c.loop-rest.row_number c.loop-rest.reached bs c.row_of-row.result c.is_empty.result two inv.0 c.row_of-row.ensures c.is_empty.ensures in
-    let step = passed m c.loop-rest.row_number c.loop-rest.reached bs c.row_of-row.result c.is_empty.result two inv.0 c.row_of-row.ensures c.is_empty.ensures lawful in
-    let few = stays_few m c.loop-rest.row_number c.loop-rest.reached bs c.row_of-row.result c.is_empty.result two inv.0 c.row_of-row.ensures c.is_empty.ensures lawful in
-    (omega (arith, inv.0), omega (arith, inv.1), λ more. omega (arith, few more, ap (λ s. s.end) live, c.requires.kind), ap (λ s. first_unlawful m (c.loop-rest.row_number + 1) (span s.low (s.end + m)) (rows_of (take (length c.loop-rest.rest.now - 2) (drop 2 c.loop-rest.rest.now)))) live ∙ step ∙ inv.3)
+pub loop-i-preserved : goal.loop-i-preserved
+loop-i-preserved g c =
+    let m = g.K.Item.GREATEST in
+    let next : c.spread-reached.result ≡ spread m (live_of c.from-row.result c.loop-i.reached) = c.spread-reached.ensures ∙ ap (spread m) c.live.ensures in
+    record {
+      few = omega (arith, ap (λ s. s.end) next, live_low c.from-row.result c.loop-i.reached, g.met.K.Item.kind.small, c.loop-i.invariant.few);
+      same = ap (λ s. first_unlawful m (c.loop-i.i + 1 + 1) s (map row_of (drop (c.loop-i.i + 1) c.args.pairs.now))) next ∙ passed _ _ _ _ _ _ c.loop-i-test.true c.from-row.ensures (sym c.is_lawful.ensures ∙ c.if-not-is_lawful.false) ∙ c.loop-i.invariant.same;
+    }
