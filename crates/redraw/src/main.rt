@@ -4,7 +4,7 @@
 
 use anyhow::anyhow;
 use plan::items::{FaultNumber, Item, Mark};
-use plan::refusals::Fault;
+use plan::refusals::Refusal;
 use sheet::drawing::draw;
 use sheet::faults::LoadFault;
 use sheet::tables::Table;
@@ -28,9 +28,7 @@ fn redraw<K: Item>(rt: &HostRuntime, bytes: &[u8], times: u32) -> anyhow::Result
     match table.load::<K>(rt.alloc(), bytes) {
         Ok(_) => {}
         Err(LoadFault::BadSheet(fault)) => {
-            let refusal = fault.refusal();
-            let cause = refusal.cause;
-            let place = refusal.place;
+            let Refusal { cause, place, .. } = fault.into();
             println!(rt; "! {cause} H {place}")?;
             return Ok(());
         }

@@ -3,7 +3,7 @@ ghost use Rattle.std.specs.Prelude.{◌≡◌};
 ghost use Rattle.sheet.specs.Refusals.{refused_sheet};
 ghost use Rattle.sheet.specs.declared.faults.LoadFault.TheVariants.{BadSheet, NoMemory};
 
-use plan::refusals::{Fault, Layer, Refusal};
+use plan::refusals::{Layer, Refusal};
 use std::alloc::AllocError;
 
 #[derive(Clone, Copy, Debug, PartialEq, Eq)]
@@ -30,18 +30,18 @@ pub enum LoadFault {
     NoMemory,
 }
 
-impl Fault for SheetFault {
-    ghost refused = { refused_sheet };
+impl From<SheetFault> for Refusal {
+    ghost from_gives = { λ e r. r ≡ refused_sheet e };
 
-    fn refusal(&self) -> Refusal {
-        let (cause, layer, place) = match self {
+    fn from(e: SheetFault) -> Refusal {
+        let (cause, layer, place) = match e {
             SheetFault::NoHeader => (4, Layer::Sheet, 0),
             SheetFault::OtherMark => (5, Layer::Sheet, 0),
             SheetFault::OtherVersion => (6, Layer::Sheet, 0),
             SheetFault::OtherKind => (7, Layer::Sheet, 0),
             SheetFault::WrongLength => (8, Layer::Sheet, 0),
-            SheetFault::UnlawfulRow(row) => (9, Layer::Sheet, *row),
-            SheetFault::ShortBuffer(needed) => (13, Layer::Memory, *needed),
+            SheetFault::UnlawfulRow(row) => (9, Layer::Sheet, row),
+            SheetFault::ShortBuffer(needed) => (13, Layer::Memory, needed),
         };
         Refusal {
             cause,
