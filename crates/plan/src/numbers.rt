@@ -27,7 +27,8 @@ pub struct LineNumbers {
     ghost cut_number_ok: { Within 0 max_acceptance cut_number },
 }
 
-// A single plan: its last size and its acceptance number.
+// A single plan: its last size and its acceptance number. Like a cut's numbers but for their names: each make has a type of
+// its own, so that the one is never taken for the other, and a marker parameter is no plainer for two fields.
 #[derive(Clone, Copy, Debug)]
 pub struct SingleNumbers {
     pub last_size: u32,

@@ -16,6 +16,7 @@ pub enum Layer {
 
 #[derive(Clone, Copy, Debug, PartialEq, Eq)]
 pub struct Refusal {
+    // a number, as refusals are listed by it and print it; inside, a fault is a case of an enum
     pub cause: u32,
     pub layer: Layer,
     pub place: u32,

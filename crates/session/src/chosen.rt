@@ -14,7 +14,8 @@ pub enum Base {
     Single(Single),
 }
 
-// Until a plan is chosen, the plan has one size, at which it rejects every count; no call reaches it.
+// A session whose plan is not chosen yet has no stand. `Unchosen` stays for a stand that is set up before its plan is
+// known, as it was promised: one size, at which every count is rejected.
 #[derive(Clone, Copy)]
 pub enum Chosen {
     Unchosen,

@@ -50,6 +50,7 @@ impl From<SessionFault> for Refusal {
     }
 }
 
+// Each `From` is written out, since clauses name the case that `?` makes, which no derive promises.
 impl From<NumberFault> for SessionFault {
     ghost from_gives = { λ e r. r ≡ Number e };
 

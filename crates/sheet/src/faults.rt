@@ -51,6 +51,7 @@ impl From<SheetFault> for Refusal {
     }
 }
 
+// Each `From` is written out, since clauses name the case that `?` makes, which no derive promises.
 impl From<SheetFault> for LoadFault {
     ghost from_gives = { λ e r. r ≡ BadSheet e };
 

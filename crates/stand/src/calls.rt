@@ -49,6 +49,7 @@ impl From<StandFault> for Refusal {
     }
 }
 
+// Each `From` is written out, since clauses name the case that `?` makes, which no derive promises.
 impl From<NumberFault> for StandFault {
     ghost from_gives = { λ e r. r ≡ Number e };
 

@@ -25,7 +25,8 @@ fn limited(position: u32, number: u64, low: u32, high: u32) -> Result<u32, Numbe
 }
 
 impl LineNumbers {
-    // The intercepts and the slope are in millionths.
+    // The intercepts and the slope are in millionths. Five parameters, as a refusal counts them: a struct of numbers that
+    // are not checked yet would only repeat the record.
     pub fn check(
         accept_intercept: u64,
         reject_intercept: u64,

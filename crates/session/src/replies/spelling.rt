@@ -22,16 +22,15 @@ fn put_byte(out: &mut [u8], at: usize, byte: u8) -> usize
     at + 1
 }
 
-// Writes a number of two digits or more at a place, and says the place after it. Most have two: by the library alone a
-// whole line took an eighth longer, and the program lost to one in plain Rust.
+// Writes a number in decimal digits at a place, and says the place after it. Most have one digit or two: by the library
+// alone a whole line took an eighth longer, and the program lost to one in plain Rust.
 #[inline(never)]
 fn put_digits(out: &mut [u8], at: usize, n: u32) -> usize
-    requires many { 10 ≤ n }
-    requires room { at + length (decimal n) ≤ length out.old }
+    requires { at + length (decimal n) ≤ length out.old }
     ensures bytes { out.new ≡ put_at out.old at (decimal n) }
     ensures place { result ≡ at + length (decimal n) }
 {
-    if n < 100 {
+    if 10 <= n && n < 100 {
         let units = put_byte(out, at, b'0' + (n / 10) as u8);
         return put_byte(out, units, b'0' + (n % 10) as u8);
     }
@@ -43,7 +42,7 @@ fn put_digits(out: &mut [u8], at: usize, n: u32) -> usize
     end
 }
 
-// The same for any number, with no call for one of one digit.
+// The same, with no call for a number of one digit.
 fn put_number(out: &mut [u8], at: usize, n: u32) -> usize
     requires { at + length (decimal n) ≤ length out.old }
     ensures bytes { out.new ≡ put_at out.old at (decimal n) }
@@ -69,6 +68,7 @@ fn put_field(out: &mut [u8], at: usize, field: &Field) -> usize
     }
 }
 
+// The letters belong to the reply lines alone, so they are no `From` of the enums, which stand in lower crates.
 fn verdict_letter(verdict: Option<Verdict>) -> u8
     ensures { result ≡ verdict_letter verdict }
 {

@@ -9,20 +9,20 @@ pub write_digits-start-requires : goal.write_digits-start-requires
 write_digits-start-requires c = search (rules, length_decimal_u32)
 
 pub put_byte-units-requires : goal.put_byte-units-requires
-put_byte-units-requires c = omega (arith, c.requires.room, ap length (two_digits c.args.n c.requires.many c.if-n-lt100.true))
+put_byte-units-requires c = omega (arith, c.requires, ap length (two_digits c.args.n c.if-n-ge10.true c.if-n-lt100.true))
 
 pub put_byte-requires : goal.put_byte-requires
 put_byte-requires c =
-    let two = two_digits c.args.n c.requires.many c.if-n-lt100.true in
-    let room : c.args.at + 1 ≤ length c.args.out.now = omega (arith, c.requires.room, ap length two) in
+    let two = two_digits c.args.n c.if-n-ge10.true c.if-n-lt100.true in
+    let room : c.args.at + 1 ≤ length c.args.out.now = omega (arith, c.requires, ap length two) in
     let one = c.put_byte-units.ensures in
-    omega (arith, c.requires.room, ap length two, one.place, ap length one.bytes ∙ length_put c.args.out.now c.args.at ((48 + c.args.n / 10) ∷ []) room)
+    omega (arith, c.requires, ap length two, one.place, ap length one.bytes ∙ length_put c.args.out.now c.args.at ((48 + c.args.n / 10) ∷ []) room)
 
 pub returns-then-n-lt100 : goal.returns-then-n-lt100
 returns-then-n-lt100 c =
     let n = c.args.n in
-    let two = two_digits n c.requires.many c.if-n-lt100.true in
-    let room : c.args.at + 1 ≤ length c.args.out.now = omega (arith, c.requires.room, ap length two) in
+    let two = two_digits n c.if-n-ge10.true c.if-n-lt100.true in
+    let room : c.args.at + 1 ≤ length c.args.out.now = omega (arith, c.requires, ap length two) in
     let one = c.put_byte-units.ensures in
     let other = c.put_byte.ensures in
     record {

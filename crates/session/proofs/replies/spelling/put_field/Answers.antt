@@ -22,14 +22,3 @@ returns-in-Count c =
       place = place_then _ _ _ (32 ∷ []) (decimal n) c.put_byte-at.ensures.place c.put_number.ensures.place ∙ ap (λ l. c.args.at + length (32 ∷ l)) is;
       short = subst (λ l. length l ≤ 10) is (length_decimal_u32 n fits);
     }
-
-pub returns-in-Letter : goal.returns-in-Letter
-returns-in-Letter c =
-    let b = c.in-Letter.b in
-    let room : c.args.at + 1 ≤ length c.args.out.now = omega (arith, c.requires) in
-    let is = ap field_text (sym c.in-Letter.is) in
-    record {
-      bytes = put_then _ _ _ _ _ (32 ∷ []) (b ∷ []) room c.put_byte-at.ensures.bytes c.put_byte-at.ensures.place c.put_byte.ensures.bytes ∙ ap (λ l. put_at c.args.out.now c.args.at (32 ∷ l)) is;
-      place = place_then _ _ _ (32 ∷ []) (b ∷ []) c.put_byte-at.ensures.place c.put_byte.ensures.place ∙ ap (λ l. c.args.at + length (32 ∷ l)) is;
-      short = subst (λ l. length l ≤ 10) is (omega arith);
-    }
