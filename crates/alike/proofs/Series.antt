@@ -44,7 +44,7 @@ module _ (m : ℕ) (p : Boundary) (xs : List ℕ) (small : AllByRecursion (λ x.
       )
     where
       kinds : {a b j : ℕ} → ◌≡◌ {A = Call} (Take a j) (Clear b) → ⊥
-      kinds e = let z : ◌≡◌ {A = ℕ} 0 1 = cc in omega arith
+      kinds e = cc
 
 module _ (m : ℕ) (p q : Boundary) (alike : ReplyAlike m p q) where
   -- a reading shows the verdict of both plans

@@ -175,5 +175,4 @@ exact m bytes small = (
     by_fault some (Some x) e =
         absurd (∥∥₁_elim some (λ u v. absurd u) (λ w.
         let none : fault_in m bytes ≡ None = no_fault m bytes (subst (Fine m) w.2 (sheet_fine m w.0 w.1)) in
-        let z : ◌≡◌ {A = ℕ} 0 1 = cc in
-        omega arith))
+        cc))
