@@ -30,6 +30,7 @@ fn inspect(rt: &HostRuntime) -> anyhow::Result<()> {
     let mut feed = Feed::new();
     let mut stdin = rt.stdin();
     let mut stdout = rt.stdout();
+    // counted, since a loop that may never end asks for leave to wait, which this program has not
     for _ in 0..u64::MAX {
         let n = match stdin.read(&mut input) {
             Ok(n) => n,

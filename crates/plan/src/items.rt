@@ -9,6 +9,7 @@ pub trait Item {
     // the greatest count of an item
     const GREATEST: u32;
 
+    // the constant, and the count of an item, as clauses name them
     ghost GREATEST: { ℕ };
 
     ghost score: { Self → ℕ };

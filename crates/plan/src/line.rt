@@ -52,7 +52,7 @@ impl Plan for Line {
 
     fn pair(&self, size: u32) -> Option<(i32, i32)> {
         let n = self.numbers;
-        if size < 1 || size > n.cut_size {
+        if !(1..=n.cut_size).contains(&size) {
             return None;
         }
         if size == n.cut_size {

@@ -13,7 +13,8 @@ pub trait Plan {
     fn last_size(&self) -> u32
         ensures { result ≡ (meaning self.now).last };
 
-    // The acceptance number and the rejection number at a size; none outside 1 to the last size.
+    // The acceptance number and the rejection number at a size; none outside 1 to the last size. A tuple of two plain
+    // numbers, as a rule of the project, for whoever implements a plan.
     fn pair(&self, size: u32) -> Option<(i32, i32)>
         ensures { result ≡ asked (meaning self.now) size };
 

@@ -30,7 +30,7 @@ impl Plan for Single {
 
     fn pair(&self, size: u32) -> Option<(i32, i32)> {
         let SingleNumbers { last_size, number } = self.numbers;
-        if size < 1 || size > last_size {
+        if !(1..=last_size).contains(&size) {
             return None;
         }
         let number = number as i32;

@@ -53,7 +53,9 @@ fn run(rt: &HostRuntime) -> anyhow::Result<()> {
     rt.stdin().read_to_end(&mut bytes)?;
     let bytes = bytes.as_slice();
     match bytes.get(5) {
-        Some(15) => redraw::<FaultNumber>(rt, bytes, times),
+        Some(kind) if u32::from(*kind) == FaultNumber::GREATEST => redraw::<FaultNumber>(
+            rt, bytes, times,
+        ),
         _ => redraw::<Mark>(rt, bytes, times),
     }
 }

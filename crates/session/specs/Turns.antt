@@ -30,6 +30,7 @@ pub data State : Type 0 where
   fresh : Boundary → State
   working : Boundary → List (Option Record) → State
 
+-- Where a turn has a session stand; and where a session stands.
 abbrev pub standing : Turn → State
 standing NoPlan = waiting
 standing (Fresh b) = fresh (base_meaning b)

@@ -1,4 +1,5 @@
-// The plan of a session: none yet, or a line or a single plan, perhaps cut.
+// The plan of a session: a line or a single plan, perhaps cut. Each is an enum of given cases and hands a question on to the
+// case: a `dyn Plan` would need a box, and a session asks for no memory.
 ghost use Rattle.std.specs.Prelude.{◌≡◌};
 ghost use Rattle.session.specs.Plans.{base_meaning, chosen_meaning};
 ghost use Rattle.session.specs.PlansLemmas.{base_lawful, chosen_lawful};

@@ -5,7 +5,7 @@ use Rattle.sheet.specs.Sheets.{Line, lines_from}
 use Rattle.sheet.specs.declared.rows.Span.{Span}
 use Rattle.sheet.specs.declared.walks.Walk.{Walk}
 
--- The lines from size n on, where the counts reached there are some, if any; those that a walk has left.
+-- The lines from size n on, by the counts reached there, if the walk has not ended; and those that a walk has left.
 abbrev pub left_at : Boundary → ℕ → ℕ → Option Span → List Line
 left_at b m n None = []
 left_at b m n (Some s) = lines_from m b (b.last + 1 - n) n s

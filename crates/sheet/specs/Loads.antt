@@ -16,7 +16,7 @@ use Rattle.sheet.specs.declared.tables.Table.{Table}
 abbrev pub number_of : ℕ → Option ℕ
 number_of n = cond (n == 255) None (Some n)
 
--- The row of two bytes, apart and together, and the rows that bytes are read as.
+-- The row of two bytes, given one by one and as a list; and the rows that bytes are read as.
 abbrev pub row_from : ℕ → ℕ → Row
 row_from x y = record { acceptance = number_of x; rejection = number_of y }
 

@@ -1,7 +1,7 @@
 // Drawing a plan's sheet as bytes.
 ghost use Rattle.std.specs.Prelude.{◌≡◌, ◌+◌, ◌≤◌, length};
 ghost use Rattle.std.specs.List.{flat_map};
-ghost use Rattle.text.specs.Writes.{put_at};
+ghost use Rattle.text.specs.Writes.{Puts};
 ghost use Rattle.sheet.specs.Bytes.{Drawn, header, row_bytes, told};
 ghost use Rattle.sheet.specs.Series.{SheetOf};
 ghost use Rattle.sheet.specs.Sheets.{sheet};
@@ -27,8 +27,7 @@ fn header<K: Item>(rows: u16) -> [u8; HEADER]
 // Tried as_chunks_mut and iter_mut().zip(walk): nothing is known of the bytes that they leave.
 fn put(out: &mut [u8], at: usize, part: &[u8]) -> usize
     requires { at + length part.now ≤ length out.old }
-    ensures bytes { out.new ≡ put_at out.old at part.now }
-    ensures place { result ≡ at + length part.now }
+    ensures { Puts out.old out.new at part.now result }
 {
     let end = at + part.len();
     out[at..end].copy_from_slice(part);
@@ -38,8 +37,7 @@ fn put(out: &mut [u8], at: usize, part: &[u8]) -> usize
 // Writes the rows of a plan's sheet at a place, and says the place after them.
 fn put_rows<K: Item, P: Plan>(plan: &P, out: &mut [u8], start: usize) -> usize
     requires { start + length (flat_map row_bytes (sheet K.GREATEST (P.meaning plan.now))) ≤ length out.old }
-    ensures bytes { out.new ≡ put_at out.old start (flat_map row_bytes (sheet K.GREATEST (P.meaning plan.now))) }
-    ensures place { result ≡ start + length (flat_map row_bytes (sheet K.GREATEST (P.meaning plan.now))) }
+    ensures { Puts out.old out.new start (flat_map row_bytes (sheet K.GREATEST (P.meaning plan.now))) result }
 {
     let mut at = start;
     for (_, row) in Walk::<K, P>::new(plan) {

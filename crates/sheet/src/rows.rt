@@ -6,7 +6,7 @@ ghost use Rattle.sheet.specs.Spans.{In, first, spread};
 
 use plan::items::Item;
 
-// The counts from `low` up to, but not with, `end`.
+// The counts from `low` up to, but not with, `end`. No `Range`, which is not `Copy`.
 #[derive(Clone, Copy, Debug, PartialEq, Eq)]
 pub struct Span {
     pub low: u32,

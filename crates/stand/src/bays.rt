@@ -113,7 +113,7 @@ impl<K: Item, P: Plan> Stand<K, P> {
         Ok(lot)
     }
 
-    // Any of the four calls.
+    // Any of the four calls, by a match on the enum, whose cases are given.
     #[inline(always)]
     pub fn call(&mut self, call: Call) -> Result<Reply, StandFault>
         ensures { Serves K.GREATEST P.meaning call self.old self.new (told (λ x. x) refused_call result) }

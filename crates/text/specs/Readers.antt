@@ -13,6 +13,7 @@ abbrev pub words_in : Option (List ℕ) → List (List ℕ)
 words_in None = []
 words_in (Some line) = words line
 
+-- the first of some words, and the others
 abbrev pub first_of : List (List ℕ) → Option (List ℕ)
 first_of [] = None
 first_of (w ∷ ws) = Some w
@@ -45,6 +46,7 @@ letter_of (b ∷ c ∷ cs) = None
 abbrev pub word_by : (List ℕ → Option ℕ) → Unread → Result ℕ Unreadable
 word_by f r = ok_or (option_and_then f (first_word r)) (unreadable r.position)
 
+-- no word may be the next, at position p
 abbrev pub ended : ℕ → Option (List ℕ) → Result Unit Unreadable
 ended p None = Ok tt
 ended p (Some w) = Err (unreadable p)

@@ -15,6 +15,7 @@ fn digits(word: &[u8], most: usize) -> Option<u32>
     if word.is_empty() || word.len() > most {
         return None;
     }
+    // not by `parse`, which takes a sign and wants a `str`
     let mut n = 0;
     for b in word {
         match b {

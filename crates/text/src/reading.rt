@@ -16,6 +16,7 @@ pub fn command(line: &[u8]) -> Result<Command, Unreadable>
         return Err(Unreadable { position: 1 });
     }
     let mut rest = Reader::of(line);
+    // one match on the letters of the format, which reads as the table of commands does
     let command = match char::from(rest.letter()?) {
         'L' => Command::Line {
             accept_intercept: rest.decimal()?,

@@ -15,7 +15,8 @@ pub struct Unreadable {
     pub position: u32,
 }
 
-// What is left of a line, from a word's start, and the position of that word.
+// What is left of a line, from a word's start, and the position of that word. The library's `split` would do for the rest,
+// but its type has that of a closure in it, which this public type would have to hand on.
 #[derive(Debug, Drop)]
 pub struct Reader<'a> {
     rest: Option<&'a [u8]>,

@@ -46,6 +46,7 @@ impl LineNumbers {
     }
 }
 
+// The two checks below are alike as their types are: one of both would hand on a pair, which is no plainer.
 impl SingleNumbers {
     pub fn check(last_size: u64, number: u64) -> Result<SingleNumbers, NumberFault>
         ensures { Checked (size_outside last_size number) (SingleHolds last_size number) result }

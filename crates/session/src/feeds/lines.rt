@@ -46,6 +46,7 @@ impl Feed {
     {
         let mut rest = input;
         let mut written = 0;
+        // tried as `while let`: the proof can then not name what comes after the line feed
         loop {
             let (part, after) = cut(rest, b'\n');
             let Some(after) = after else {

@@ -3,7 +3,7 @@
 // two would hold the loan of the buffer, which each clause would have to name as well.
 ghost use Rattle.std.specs.Prelude.{◌≡◌, ◌+◌, ◌<◌, ◌≤◌, [], ◌∷◌, length, decimal};
 ghost use Rattle.session.specs.Replies.{Spelt, answer_line, call_letter, field_text, layer_letter, refusal_line, reply_line, verdict_letter};
-ghost use Rattle.text.specs.Writes.{put_at};
+ghost use Rattle.text.specs.Writes.{Puts};
 
 use super::Field;
 use crate::turns::{Answer, REPLY_ROOM};
@@ -15,8 +15,7 @@ use stand::records::{Call, Reply};
 // Writes a byte at a place, and says the place after it.
 fn put_byte(out: &mut [u8], at: usize, byte: u8) -> usize
     requires { at < length out.old }
-    ensures bytes { out.new ≡ put_at out.old at (byte ∷ []) }
-    ensures place { result ≡ at + 1 }
+    ensures { Puts out.old out.new at (byte ∷ []) result }
 {
     out[at] = byte;
     at + 1
@@ -27,8 +26,7 @@ fn put_byte(out: &mut [u8], at: usize, byte: u8) -> usize
 #[inline(never)]
 fn put_digits(out: &mut [u8], at: usize, n: u32) -> usize
     requires { at + length (decimal n) ≤ length out.old }
-    ensures bytes { out.new ≡ put_at out.old at (decimal n) }
-    ensures place { result ≡ at + length (decimal n) }
+    ensures { Puts out.old out.new at (decimal n) result }
 {
     if 10 <= n && n < 100 {
         let units = put_byte(out, at, b'0' + (n / 10) as u8);
@@ -45,8 +43,7 @@ fn put_digits(out: &mut [u8], at: usize, n: u32) -> usize
 // The same, with no call for a number of one digit.
 fn put_number(out: &mut [u8], at: usize, n: u32) -> usize
     requires { at + length (decimal n) ≤ length out.old }
-    ensures bytes { out.new ≡ put_at out.old at (decimal n) }
-    ensures place { result ≡ at + length (decimal n) }
+    ensures { Puts out.old out.new at (decimal n) result }
 {
     if n < 10 {
         return put_byte(out, at, b'0' + n as u8);
@@ -57,8 +54,7 @@ fn put_number(out: &mut [u8], at: usize, n: u32) -> usize
 // Writes a space and a field at a place, and says the place after it.
 fn put_field(out: &mut [u8], at: usize, field: &Field) -> usize
     requires { at + 11 ≤ length out.old }
-    ensures bytes { out.new ≡ put_at out.old at (32 ∷ field_text field.now) }
-    ensures place { result ≡ at + length (32 ∷ field_text field.now) }
+    ensures puts { Puts out.old out.new at (32 ∷ field_text field.now) result }
     ensures short { length (field_text field.now) ≤ 10 }
 {
     let at = put_byte(out, at, b' ');
@@ -68,7 +64,7 @@ fn put_field(out: &mut [u8], at: usize, field: &Field) -> usize
     }
 }
 
-// The letters belong to the reply lines alone, so they are no `From` of the enums, which stand in lower crates.
+// A letter is a byte of the reply lines, and no other form of what it stands for: as a `From` it would be no plainer.
 fn verdict_letter(verdict: Option<Verdict>) -> u8
     ensures { result ≡ verdict_letter verdict }
 {

@@ -17,7 +17,7 @@ use stand::bays::Stand;
 use stand::records::Call;
 use text::Command;
 
-// A line plan, from its numbers.
+// A line plan, from its numbers, one by one as the command has them.
 fn line(
     accept_intercept: u64,
     reject_intercept: u64,
@@ -91,7 +91,8 @@ impl Turn {
         Ok(Answer::Planned(last_size))
     }
 
-    // What a command does: the answer, or why it is refused.
+    // What a command does: the answer, or why it is refused. The match is on an enum, whose cases are given. The last four
+    // arms are no `From`: commands and calls stand in crates that do not know one another.
     pub(super) fn act(&mut self, command: Command) -> Result<Answer, SessionFault>
         ensures { (standing self.new, told result) ≡ acted (standing self.old) command }
     {

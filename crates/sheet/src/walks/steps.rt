@@ -11,7 +11,8 @@ use plan::items::Item;
 use plan::plans::Plan;
 use std::marker::PhantomData;
 
-// The least count that a pair with this acceptance number does not accept.
+// The least count that a pair with this acceptance number does not accept. It and the next differ by one: they are two words
+// of the definitions, and one function with a number to add would be no plainer.
 fn past(number: i32) -> u32
     ensures { result ≡ past number }
 {

@@ -18,7 +18,6 @@ returns-in-Count c =
     let room : c.args.at + 1 ≤ length c.args.out.now = omega (arith, c.requires) in
     let is = ap field_text (sym c.in-Count.is) in
     record {
-      bytes = put_then _ _ _ _ _ (32 ∷ []) (decimal n) room c.put_byte-at.ensures.bytes c.put_byte-at.ensures.place c.put_number.ensures.bytes ∙ ap (λ l. put_at c.args.out.now c.args.at (32 ∷ l)) is;
-      place = place_then _ _ _ (32 ∷ []) (decimal n) c.put_byte-at.ensures.place c.put_number.ensures.place ∙ ap (λ l. c.args.at + length (32 ∷ l)) is;
+      puts = record { bytes = put_then _ _ _ _ _ (32 ∷ []) (decimal n) room c.put_byte-at.ensures.bytes c.put_byte-at.ensures.place c.put_number.ensures.bytes ∙ ap (λ l. put_at c.args.out.now c.args.at (32 ∷ l)) is; place = place_then _ _ _ (32 ∷ []) (decimal n) c.put_byte-at.ensures.place c.put_number.ensures.place ∙ ap (λ l. c.args.at + length (32 ∷ l)) is };
       short = subst (λ l. length l ≤ 10) is (length_decimal_u32 n fits);
     }
