@@ -1,5 +1,8 @@
 use Rattle.session.proofs.Pieces.{lines_part, pieces_join}
 use Rattle.session.proofs.feeds.Feed.new.Goals as goal
 
-pub returns : goal.returns
-returns c = record { view = c.new.ensures.view; number = c.new.ensures.line; kept = c.new-2.ensures; lines = lines_part; pieces = pieces_join }
+pub returns-clause-lines : goal.returns-clause-lines
+returns-clause-lines c = lines_part
+
+pub returns-clause-pieces : goal.returns-clause-pieces
+returns-clause-pieces c = pieces_join
