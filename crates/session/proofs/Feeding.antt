@@ -1,15 +1,14 @@
 -- Lines of an input, answered as they end. Assumes nothing.
-use Rattle.std.proofs.Common.{◌≡◌, ℕ, ◌+◌, ◌-◌, ◌<◌, ◌≤◌, min, Bool, true, false, cond, eqb, ltb, leb, List, [], ◌∷◌, ◌++◌, length, take, drop, Some, None, Ok, Err, Result, sym, refl, ap, ◌∙◌, subst, ⊎_elim, append_assoc, append-nil, arith}
+use Rattle.std.proofs.Common.{◌≡◌, ℕ, ◌+◌, ◌-◌, ◌<◌, ◌≤◌, min, Bool, true, false, cond, eqb, ltb, leb, List, [], ◌∷◌, ◌++◌, length, take, drop, Some, None, Ok, Err, sym, refl, ap, ◌∙◌, subst, ⊎_elim, append_assoc, append-nil, arith}
 use Rattle.std.proofs.lemmas.List.{take_all, take_at, take-take, take-append-drop, drop_at, drop_all, drop-drop, drop-take, length-append, length-drop, length_push, length-take}
 use borrow.Rule.Slice.PartMut.{put_mid}
 use Rattle.std.proofs.lemmas.Bool.{cond-false, cases_lt, le-ltb, lt-leb, eqb-true}
-use Rattle.plan.specs.declared.refusals.Refusal.{Refusal}
 use Rattle.text.specs.Commands.{command_of, command_in}
 use Rattle.text.specs.Cuts.{before, after}
 use Rattle.text.specs.Readers.{unreadable}
 use Rattle.text.specs.Texts.{added}
 use Rattle.text.specs.Words.{words}
-use Rattle.session.specs.Feeds.{Fed, Finished, LineEnded, ended, kept, unended, transcript, state_after, number_after}
+use Rattle.session.specs.Feeds.{Fed, LineEnded, ended, kept, unended, transcript, state_after, number_after}
 use Rattle.text.specs.Writes.{over}
 use Rattle.session.specs.Replies.{line_for, Spelt}
 use Rattle.session.proofs.Spelling.{over_chunk}
@@ -141,9 +140,6 @@ pub record Sofar (f f' : Feed) (input buffer buffer' : List ℕ) (k w : ℕ) : T
   pub written : w ≡ length (transcript (view f.session) f.session.line (ended (kept f) (take k input)))
   pub bytes : buffer' ≡ over (transcript (view f.session) f.session.line (ended (kept f) (take k input))) buffer
 
-pub begins : (f : Feed) (input buffer : List ℕ) → Sofar f f input buffer buffer 0 0
-begins f input buffer = record { within = omega arith; state = refl; number = refl; left = refl; room = omega arith; written = refl; bytes = refl }
-
 -- the end: nothing more is read
 pub stops : (f f' : Feed) (input buffer buffer' : List ℕ) (k w : ℕ) → Sofar f f' input buffer buffer' k w → (k < length input → length buffer < w + 96) → Fed f f' input buffer buffer' (record { «read» = k; written = w })
 stops f f' input buffer buffer' k w s stop = record {
@@ -269,12 +265,3 @@ module _ (f g : Feed) (input buffer buffer' : List ℕ) (k w : ℕ) (s : Sofar f
       written = omega (arith, s.written, e.written, ap length texts ∙ length-append text reply);
       bytes = put ∙ ap (λ t. over t buffer) (sym texts);
     }
-
--- the end of an input
-pub none_begun : (f : Feed) (buffer : List ℕ) (r : Result ℕ (Refusal × ℕ)) (line : List ℕ) → line ≡ [] → r ≡ Ok 0 → Finished f f line buffer buffer r
-none_begun f buffer r [] e ok = (refl, refl, ok)
-none_begun f buffer r (b ∷ bs) e ok = cc
-
-pub some_begun : (f f' : Feed) (buffer buffer' : List ℕ) (r : Result ℕ (Refusal × ℕ)) (line : List ℕ) → (length line ≡ 0 → ⊥) → kept f' ≡ [] → Answered (view f.session) (view f'.session) f.session.line f'.session.line line buffer buffer' r → Finished f f' line buffer buffer' r
-some_begun f f' buffer buffer' r [] some none a = absurd (some refl)
-some_begun f f' buffer buffer' r (b ∷ bs) some none a = (none, a)

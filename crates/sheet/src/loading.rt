@@ -101,8 +101,8 @@ pub fn rows_checked<K: Item>(bytes: &[u8]) -> Result<&[[u8; 2]], SheetFault>
     if u32::from(*kind) != K::GREATEST {
         return Err(SheetFault::OtherKind);
     }
-    // tried `contains` for the limits: the proof has then to be split by hand
     let count = usize::from(u16::from_le_bytes([*low, *high]));
+    // tried `contains` for the limits: the proof has then to be split by hand
     if count < 1 || count > MOST_ROWS || bytes.len() != HEADER + 2 * count {
         return Err(SheetFault::WrongLength);
     }

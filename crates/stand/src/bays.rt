@@ -84,7 +84,7 @@ impl<K: Item, P: Plan> Stand<K, P> {
     pub fn clear(&mut self, bay: u32) -> Result<Record, BayFault>
         ensures { Serves K.GREATEST P.meaning (Clear bay) self.old self.new (told Lot refused_bay result) }
     {
-        let lot = look(&self.bays, bay)?.ok_or(BayFault::Empty(bay))?;
+        let lot = self.read(bay)?;
         self.bays[bay as usize] = None;
         Ok(lot)
     }
