@@ -10,7 +10,7 @@ mod sessions;
 pub use sessions::{LAST_LINE, REPLY_ROOM};
 
 // No plan yet; a plan that may still be cut; or a stand at work.
-#[derive(Drop)]
+#[derive(Clone, Copy)]
 pub enum Turn {
     NoPlan,
     Fresh(Base),

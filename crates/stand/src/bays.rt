@@ -1,6 +1,6 @@
 // A stand: one plan and 32 bays.
 ghost use Rattle.std.specs.Prelude.{◌≡◌, ◌<◌, ◌||◌, replicate, is_some, None as none, MatchResult, nat_le};
-ghost use Rattle.stand.specs.Bays.{held};
+ghost use Rattle.stand.specs.Bays.{Small, held};
 ghost use Rattle.stand.specs.Calls.{Serves, told};
 ghost use Rattle.stand.specs.Refusals.{refused_bay, refused_call};
 ghost use Rattle.stand.specs.declared.records.BayFault.TheVariants.{NoSuchBay};
@@ -16,7 +16,7 @@ use std::marker::{Model, PhantomData};
 // How many bays a stand has.
 pub const BAYS: usize = 32;
 
-#[derive(Drop)]
+#[derive(Clone, Copy, Drop)]
 pub struct Stand<K, P> {
     plan: P,
     bays: [Option<Record>; BAYS],
@@ -32,6 +32,8 @@ impl<K, P> Model for Stand<K, P> {
     ghost view = { λ s. record { plan = s.plan; bays = s.bays } };
 
     ghost invariant = { λ s. Small s.bays };
+
+    ghost inverse = { λ d. record { plan = d.plan; bays = d.bays; kind = record {} } };
 }
 
 // What a bay holds; a bay above the last is refused.
@@ -53,7 +55,8 @@ fn is_decided(lot: Record, last_size: u32) -> bool
 impl<K: Item, P: Plan> Stand<K, P> {
     // A stand with all bays empty.
     pub fn new(plan: P) -> Stand<K, P>
-        ensures { result ≡ record { plan = plan; bays = replicate 32 none } }
+        ensures empty { result ≡ record { plan = plan; bays = replicate 32 none } }
+        ensures small { Small result.bays }
     {
         Stand {
             plan,
@@ -64,7 +67,8 @@ impl<K: Item, P: Plan> Stand<K, P> {
 
     // Starts the record of a lot in an empty bay, and replies the bay.
     pub fn open(&mut self, bay: u32) -> Result<u32, BayFault>
-        ensures { Serves K.GREATEST P.meaning (Open bay) self.old self.new (told Opened refused_bay result) }
+        ensures serves { Serves K.GREATEST P.meaning (Open bay) self.old self.new (told Opened refused_bay result) }
+        ensures small { Small self.new.bays }
     {
         if look(&self.bays, bay)?.is_some() {
             return Err(BayFault::Busy(bay));
@@ -75,14 +79,16 @@ impl<K: Item, P: Plan> Stand<K, P> {
 
     // The record of the lot in a bay.
     pub fn read(&self, bay: u32) -> Result<Record, BayFault>
-        ensures { Serves K.GREATEST P.meaning (Read bay) self.now self.now (told Lot refused_bay result) }
+        ensures serves { Serves K.GREATEST P.meaning (Read bay) self.now self.now (told Lot refused_bay result) }
+        ensures small { Small self.now.bays }
     {
         look(&self.bays, bay)?.ok_or(BayFault::Empty(bay))
     }
 
     // The record of the lot in a bay, which is empty then.
     pub fn clear(&mut self, bay: u32) -> Result<Record, BayFault>
-        ensures { Serves K.GREATEST P.meaning (Clear bay) self.old self.new (told Lot refused_bay result) }
+        ensures serves { Serves K.GREATEST P.meaning (Clear bay) self.old self.new (told Lot refused_bay result) }
+        ensures small { Small self.new.bays }
     {
         let lot = self.read(bay)?;
         self.bays[bay as usize] = None;
@@ -91,7 +97,8 @@ impl<K: Item, P: Plan> Stand<K, P> {
 
     // Takes an item, by its count, into the lot in a bay: the plan rules on the lot, whose record is replied.
     pub fn take(&mut self, bay: u32, count: u32) -> Result<Record, StandFault>
-        ensures { Serves K.GREATEST P.meaning (Take bay count) self.old self.new (told Lot refused_call result) }
+        ensures serves { Serves K.GREATEST P.meaning (Take bay count) self.old self.new (told Lot refused_call result) }
+        ensures small { Small self.new.bays }
     {
         let holds = look(&self.bays, bay)?;
         if count > K::GREATEST {
@@ -116,7 +123,8 @@ impl<K: Item, P: Plan> Stand<K, P> {
     // Any of the four calls, by a match on the enum, whose cases are given.
     #[inline(always)]
     pub fn call(&mut self, call: Call) -> Result<Reply, StandFault>
-        ensures { Serves K.GREATEST P.meaning call self.old self.new (told (λ x. x) refused_call result) }
+        ensures serves { Serves K.GREATEST P.meaning call self.old self.new (told (λ x. x) refused_call result) }
+        ensures small { Small self.new.bays }
     {
         Ok(match call {
             Call::Open(bay) => Reply::Opened(self.open(bay)?),

@@ -4,4 +4,5 @@ pub mod Words
 pub mod Readers
 pub mod Commands
 pub mod Texts
+pub mod TextLemmas
 pub mod Writes

@@ -16,14 +16,14 @@ use std::marker::PhantomData;
 fn past(number: i32) -> u32
     ensures { result ≡ past number }
 {
-    u32::try_from(number).map_or(0, |n| n + 1)
+    (i64::from(number) + 1).max(0) as u32
 }
 
 // The least count that a pair with this rejection number rejects.
 fn whole(number: i32) -> u32
     ensures { result ≡ whole number }
 {
-    u32::try_from(number).unwrap_or(0)
+    number.max(0) as u32
 }
 
 impl Span {
@@ -82,7 +82,9 @@ impl<'a, K: Item, P: Plan> Iterator for Walk<'a, K, P> {
 
     fn next(&mut self) -> Option<(Span, Row)> {
         let reached = self.reached.take()?;
-        let pair = self.plan.pair(self.size)?;
+        let Some(pair) = self.plan.pair(self.size) else {
+            return None;
+        };
         self.size += 1;
         self.reached = reached.next::<K>(pair);
         Some((reached, Row::over(reached, pair)))

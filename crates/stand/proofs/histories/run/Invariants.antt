@@ -1,4 +1,5 @@
 use Rattle.std.proofs.Common.{◌≡◌, map, length, take}
+use Rattle.stand.specs.Bays.{Small}
 use Rattle.stand.specs.Histories.{Lived, call_of, steps}
 use Rattle.stand.proofs.histories.run.Given as goal
 
@@ -8,5 +9,6 @@ invariant-loop-step g l = record {
   all_bays : length l.stand.bays ≡ 32;
   calls : map call_of l.history ≡ map call_of l.initial.history;
   replied : length (steps (take l.step-index l.history)) ≡ l.step-index;
+  small : Small l.stand.bays;
   lived : Lived g.K.Item.GREATEST (g.P.Plan.meaning l.stand.plan) (steps (take l.step-index l.history)) l.stand.bays;
 }

@@ -7,7 +7,7 @@ use Rattle.sheet.proofs.walks.steps.WalkIterator.next.Goals.{After-over}
 
 -- what is left at the step begins with the line that it gives
 first : (g : given.Over) (c : After-over g) → left g.P.Plan.meaning g.K.Item.GREATEST c.args.self.now ≡ (c.in_ok-reached.reached, c.over.result) ∷ left_at (g.P.Plan.meaning c.args.self.now.plan.now) g.K.Item.GREATEST (c.args.self.now.size + 1) c.next-self.result
-first g c = step_left (g.P.Plan.meaning c.args.self.now.plan.now) g.K.Item.GREATEST c.args.self.now.size _ _ _ _ _ (sym c.take.ensures.value ∙ c.in_ok-reached.was) (sym c.pair.ensures ∙ c.in_ok-pair.was) c.next-self.ensures c.over.ensures
+first g c = step_left (g.P.Plan.meaning c.args.self.now.plan.now) g.K.Item.GREATEST c.args.self.now.size _ _ _ _ _ (sym c.take.ensures.value ∙ c.in_ok-reached.was) (sym c.pair.ensures ∙ c.in-Some.is) c.next-self.ensures c.over.ensures
 
 pub returns-clause-steps : goal.returns-clause-steps
 returns-clause-steps g c = first g (goal.at.returns-clause-steps g c).After-over

@@ -1,0 +1,42 @@
+// Values that are copied, and what a reading tells of a record.
+use plan::items::Mark;
+use plan::numbers::SingleNumbers;
+use plan::plans::Plan;
+use plan::single::Single;
+use session::turns::Turn;
+use stand::bays::Stand;
+use stand::records::BayFault;
+use std::test::Fail;
+use text::Text;
+
+// The size of the lot in a bay with one more item: the sum fits, since every record of a stand is small.
+fn next_size<P: Plan>(stand: &Stand<Mark, P>, bay: u32) -> Result<u32, BayFault> {
+    Ok(stand.read(bay)?.size + 1)
+}
+
+// A copy of a text stays as it was when the other is added to.
+#[test]
+fn a_text_twice(rt: HostRuntime) {
+    let mut text = Text::new();
+    text.put(b"I 3");
+    let copy = text;
+    text.put(b" 0");
+    assert_eq!(rt; text.as_bytes(), b"I 3 0".as_slice());
+    assert_eq!(rt; copy.as_bytes(), b"I 3".as_slice());
+}
+
+// And a stand, and a turn that holds one.
+#[test]
+fn a_stand_twice(rt: HostRuntime) -> Result<(), Fail> {
+    let mut stand: Stand<Mark, Single> = Stand::new(Single::new(SingleNumbers::check(2, 0)?));
+    assert_eq!(rt; stand.open(3), Ok(3));
+    let copy = stand;
+    assert!(rt; stand.take(3, 0).is_ok());
+    assert_eq!(rt; next_size(&stand, 3), Ok(2));
+    assert_eq!(rt; next_size(&copy, 3), Ok(1));
+    assert_eq!(rt; next_size(&copy, 4), Err(BayFault::Empty(4)));
+    let turn = Turn::NoPlan;
+    let turns = [turn, turn];
+    assert_eq!(rt; turns.len(), 2);
+    Ok(())
+}
