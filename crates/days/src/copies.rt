@@ -5,13 +5,25 @@ use plan::plans::Plan;
 use plan::single::Single;
 use session::turns::Turn;
 use stand::bays::Stand;
-use stand::records::BayFault;
+use stand::records::{BayFault, Call, Reply, StandFault};
 use std::test::Fail;
 use text::Text;
 
 // The size of the lot in a bay with one more item: the sum fits, since every record of a stand is small.
 fn next_size<P: Plan>(stand: &Stand<Mark, P>, bay: u32) -> Result<u32, BayFault> {
     Ok(stand.read(bay)?.size + 1)
+}
+
+// The same of a record that a clearing replies, and of one that any call does.
+fn next_size_cleared<P: Plan>(stand: &mut Stand<Mark, P>, bay: u32) -> Result<u32, BayFault> {
+    Ok(stand.clear(bay)?.size + 1)
+}
+
+fn next_size_called<P: Plan>(stand: &mut Stand<Mark, P>, call: Call) -> Result<u32, StandFault> {
+    match stand.call(call)? {
+        Reply::Lot(lot) => Ok(lot.size + 1),
+        Reply::Opened(_) => Ok(1),
+    }
 }
 
 // A copy of a text stays as it was when the other is added to.
@@ -35,6 +47,8 @@ fn a_stand_twice(rt: HostRuntime) -> Result<(), Fail> {
     assert_eq!(rt; next_size(&stand, 3), Ok(2));
     assert_eq!(rt; next_size(&copy, 3), Ok(1));
     assert_eq!(rt; next_size(&copy, 4), Err(BayFault::Empty(4)));
+    assert_eq!(rt; next_size_called(&mut stand, Call::Read(3)), Ok(2));
+    assert_eq!(rt; next_size_cleared(&mut stand, 3), Ok(2));
     let turn = Turn::NoPlan;
     let turns = [turn, turn];
     assert_eq!(rt; turns.len(), 2);

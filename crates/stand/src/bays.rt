@@ -68,6 +68,7 @@ impl<K: Item, P: Plan> Stand<K, P> {
     // Starts the record of a lot in an empty bay, and replies the bay.
     pub fn open(&mut self, bay: u32) -> Result<u32, BayFault>
         ensures serves { Serves K.GREATEST P.meaning (Open bay) self.old self.new (told Opened refused_bay result) }
+        ensures was_small { Small self.old.bays }
         ensures small { Small self.new.bays }
     {
         if look(&self.bays, bay)?.is_some() {
@@ -88,6 +89,7 @@ impl<K: Item, P: Plan> Stand<K, P> {
     // The record of the lot in a bay, which is empty then.
     pub fn clear(&mut self, bay: u32) -> Result<Record, BayFault>
         ensures serves { Serves K.GREATEST P.meaning (Clear bay) self.old self.new (told Lot refused_bay result) }
+        ensures was_small { Small self.old.bays }
         ensures small { Small self.new.bays }
     {
         let lot = self.read(bay)?;
@@ -98,6 +100,7 @@ impl<K: Item, P: Plan> Stand<K, P> {
     // Takes an item, by its count, into the lot in a bay: the plan rules on the lot, whose record is replied.
     pub fn take(&mut self, bay: u32, count: u32) -> Result<Record, StandFault>
         ensures serves { Serves K.GREATEST P.meaning (Take bay count) self.old self.new (told Lot refused_call result) }
+        ensures was_small { Small self.old.bays }
         ensures small { Small self.new.bays }
     {
         let holds = look(&self.bays, bay)?;
@@ -124,6 +127,7 @@ impl<K: Item, P: Plan> Stand<K, P> {
     #[inline(always)]
     pub fn call(&mut self, call: Call) -> Result<Reply, StandFault>
         ensures serves { Serves K.GREATEST P.meaning call self.old self.new (told (λ x. x) refused_call result) }
+        ensures was_small { Small self.old.bays }
         ensures small { Small self.new.bays }
     {
         Ok(match call {

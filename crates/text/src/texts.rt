@@ -81,6 +81,10 @@ impl Text {
     pub fn put(&mut self, part: &[u8])
         ensures { self.new ≡ added self.old part.now }
     {
+        // of a long line most bytes find no room
+        if self.len == ROOM {
+            return;
+        }
         let fits = (ROOM - self.len).min(part.len());
         let front = &part[..fits];
         for b in front {

@@ -2,7 +2,7 @@ use Rattle.std.proofs.Common.{◌≡◌, ◌≤◌, ◌-◌, [], ◌∷◌, get_
 use Rattle.std.proofs.lemmas.List.{take_more, take_all}
 use Rattle.text.specs.Texts.{added}
 use Rattle.text.specs.TextLemmas.{filled_length}
-use Rattle.text.proofs.TextLaws.{added_added, added_front, added_none}
+use Rattle.text.proofs.TextLaws.{added_added, added_front, added_full, added_none}
 use Rattle.text.proofs.texts.Text.put.Goals as goal
 
 pub loop-b-init : goal.loop-b-init
@@ -28,3 +28,9 @@ returns c =
     let fits : c.min-fits.result ≡ min (96 - length text) (length part) = omega (arith, long, c.min-fits.ensures) in
     let short : length text ≤ 96 = omega (arith, long, c.self.invariant.0) in
     c.loop-b.invariant ∙ ap (added text) (take_all c.loop-b.b-index _ c.loop-b-test.false ∙ ap (λ n. take n part) fits) ∙ added_front text part short
+
+pub returns-then-self-eq-ROOM : goal.returns-then-self-eq-ROOM
+returns-then-self-eq-ROOM c =
+    let t = c.self.inside in
+    let full : length c.args.self.now ≡ 96 = ap length (sym c.self.view_is) ∙ filled_length t.bytes t.len c.self.invariant.0 c.self.invariant.1 ∙ c.if-self-eq-ROOM.true in
+    sym (added_full c.args.self.now c.args.part.now full)
