@@ -1,8 +1,9 @@
-// Values that are copied, and what a reading tells of a record.
+// Values that are copied, and what a call of a stand tells of a record.
 use plan::items::Mark;
 use plan::numbers::SingleNumbers;
 use plan::plans::Plan;
 use plan::single::Single;
+use session::chosen::{Base, Chosen};
 use session::turns::Turn;
 use stand::bays::Stand;
 use stand::records::{BayFault, Call, Reply, StandFault};
@@ -40,7 +41,8 @@ fn a_text_twice(rt: HostRuntime) {
 // And a stand, and a turn that holds one.
 #[test]
 fn a_stand_twice(rt: HostRuntime) -> Result<(), Fail> {
-    let mut stand: Stand<Mark, Single> = Stand::new(Single::new(SingleNumbers::check(2, 0)?));
+    let single = Single::new(SingleNumbers::check(2, 0)?);
+    let mut stand: Stand<Mark, Chosen> = Stand::new(Chosen::Whole(Base::Single(single)));
     assert_eq!(rt; stand.open(3), Ok(3));
     let copy = stand;
     assert!(rt; stand.take(3, 0).is_ok());
@@ -49,8 +51,14 @@ fn a_stand_twice(rt: HostRuntime) -> Result<(), Fail> {
     assert_eq!(rt; next_size(&copy, 4), Err(BayFault::Empty(4)));
     assert_eq!(rt; next_size_called(&mut stand, Call::Read(3)), Ok(2));
     assert_eq!(rt; next_size_cleared(&mut stand, 3), Ok(2));
-    let turn = Turn::NoPlan;
+    let turn = Turn::Working(copy);
     let turns = [turn, turn];
     assert_eq!(rt; turns.len(), 2);
+    for turn in turns {
+        let Turn::Working(stand) = turn else {
+            return Err(Fail::new("a turn without its stand"));
+        };
+        assert_eq!(rt; next_size(&stand, 3), Ok(1));
+    }
     Ok(())
 }

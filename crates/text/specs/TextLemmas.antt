@@ -17,5 +17,9 @@ filled_long bs n short is = omega (arith, ap length is, length_filled (take n bs
 pub filled_length : (bs : List ℕ) (n : ℕ) → n ≤ 96 → bs ≡ filled (take n bs) → length (take n bs) ≡ n
 filled_length bs n short is = omega (arith, filled_long bs n short is, length-take n bs)
 
+-- so a text is as long as its length says
+pub filled_text : (bs : List ℕ) (n : ℕ) (text : List ℕ) → take n bs ≡ text → (n ≤ 96) × (bs ≡ filled (take n bs)) → length text ≡ n
+filled_text bs n text view h = ap length (sym view) ∙ filled_length bs n h.0 h.1
+
 pub filled_front : (t : Inside) → (t.len ≤ 96) × (t.bytes ≡ filled (take t.len t.bytes)) → record { bytes = filled (take t.len t.bytes); len = length (take t.len t.bytes) } ≡ t
 filled_front t h = ap (λ bs. record { bytes = bs; len = length (take t.len t.bytes) }) (sym h.1) ∙ ap (λ n. record { bytes = t.bytes; len = n }) (filled_length t.bytes t.len h.0 h.1)

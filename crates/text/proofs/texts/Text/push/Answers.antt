@@ -1,6 +1,6 @@
 use Rattle.std.proofs.Common.{◌≡◌, [], ◌∷◌, length, sym, ap, ◌∙◌, arith}
 use Rattle.text.specs.Texts.{added}
-use Rattle.text.specs.TextLemmas.{filled_length}
+use Rattle.text.specs.TextLemmas.{filled_text}
 use Rattle.text.proofs.TextLaws.{added_full, push_fits}
 use Rattle.text.proofs.texts.Text.push.Goals as goal
 
@@ -12,5 +12,5 @@ returns-then-self-lt-ROOM c =
 pub returns-else-self-lt-ROOM : goal.returns-else-self-lt-ROOM
 returns-else-self-lt-ROOM c =
     let t = c.self.inside in
-    let full : length c.args.self.now ≡ 96 = omega (arith, ap length c.self.view_is, c.self.invariant.0, c.if-self-lt-ROOM.false, filled_length t.bytes t.len c.self.invariant.0 c.self.invariant.1) in
+    let full : length c.args.self.now ≡ 96 = omega (arith, filled_text t.bytes t.len c.args.self.now c.self.view_is c.self.invariant, c.self.invariant.0, c.if-self-lt-ROOM.false) in
     sym (added_full c.args.self.now (c.args.byte ∷ []) full)

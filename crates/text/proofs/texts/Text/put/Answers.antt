@@ -1,14 +1,14 @@
 use Rattle.std.proofs.Common.{◌≡◌, ◌≤◌, ◌-◌, [], ◌∷◌, get_or, length, take, min, sym, ap, ◌∙◌, arith}
 use Rattle.std.proofs.lemmas.List.{take_more, take_all}
 use Rattle.text.specs.Texts.{added}
-use Rattle.text.specs.TextLemmas.{filled_length}
+use Rattle.text.specs.TextLemmas.{filled_text}
 use Rattle.text.proofs.TextLaws.{added_added, added_front, added_full, added_none}
 use Rattle.text.proofs.texts.Text.put.Goals as goal
 
 pub loop-b-init : goal.loop-b-init
 loop-b-init c =
     let t = c.self.inside in
-    let short : length c.args.self.now ≤ 96 = omega (arith, ap length c.self.view_is, c.self.invariant.0, filled_length t.bytes t.len c.self.invariant.0 c.self.invariant.1) in
+    let short : length c.args.self.now ≤ 96 = omega (arith, filled_text t.bytes t.len c.args.self.now c.self.view_is c.self.invariant, c.self.invariant.0) in
     sym (added_none c.args.self.now short)
 
 pub loop-b-preserved : goal.loop-b-preserved
@@ -24,7 +24,7 @@ returns c =
     let t = c.self.inside in
     let text = c.args.self.now in
     let part = c.args.part.now in
-    let long : length text ≡ t.len = ap length (sym c.self.view_is) ∙ filled_length t.bytes t.len c.self.invariant.0 c.self.invariant.1 in
+    let long = filled_text t.bytes t.len text c.self.view_is c.self.invariant in
     let fits : c.min-fits.result ≡ min (96 - length text) (length part) = omega (arith, long, c.min-fits.ensures) in
     let short : length text ≤ 96 = omega (arith, long, c.self.invariant.0) in
     c.loop-b.invariant ∙ ap (added text) (take_all c.loop-b.b-index _ c.loop-b-test.false ∙ ap (λ n. take n part) fits) ∙ added_front text part short
@@ -32,5 +32,5 @@ returns c =
 pub returns-then-self-eq-ROOM : goal.returns-then-self-eq-ROOM
 returns-then-self-eq-ROOM c =
     let t = c.self.inside in
-    let full : length c.args.self.now ≡ 96 = ap length (sym c.self.view_is) ∙ filled_length t.bytes t.len c.self.invariant.0 c.self.invariant.1 ∙ c.if-self-eq-ROOM.true in
+    let full = filled_text t.bytes t.len c.args.self.now c.self.view_is c.self.invariant ∙ c.if-self-eq-ROOM.true in
     sym (added_full c.args.self.now c.args.part.now full)
